@@ -1,0 +1,101 @@
+// The bits of an image operands mask: how many words each takes, and what uses it.
+ghost use mathlib.Core.Path.{_≡_};
+ghost use Rattle.std.specs.declared.option.Option.the-variants.{Some};
+ghost use Rattle.words.specs.Masks.{bit, maskBit, wordsAt, permits, supports, wordsNeeded};
+use crate::opcodes::OperandRule;
+
+// Who honours an operand. The words of one that nobody uses are stepped over.
+#[derive(Clone, Copy)]
+pub enum UsedBy {
+    Samples,
+    Loads,
+    SamplesAndLoads,
+    Nobody,
+}
+
+// A row of the mask table.
+#[derive(Clone, Copy)]
+pub struct MaskBit {
+    pub words: usize,
+    pub used_by: UsedBy,
+}
+
+const fn row(words: usize, used_by: UsedBy) -> Option<MaskBit>
+    ensures { λ r. ⌜ r ≡ Some (bit words «used_by») ⌝ }
+{
+    Some(MaskBit { words, used_by })
+}
+
+// The row of a bit by its number, if the table has it.
+pub fn mask_bit(number: u32) -> Option<MaskBit>
+    ensures { λ r. ⌜ r ≡ maskBit number ⌝ }
+{
+    match number {
+        0 => row(1, UsedBy::Samples),
+        1 => row(1, UsedBy::SamplesAndLoads),
+        2 => row(2, UsedBy::Samples),
+        3 => row(1, UsedBy::Samples),
+        6 => row(1, UsedBy::Loads),
+        8 | 9 => row(1, UsedBy::Nobody),
+        10 | 11 | 14 => row(0, UsedBy::Nobody),
+        _ => None,
+    }
+}
+
+// How many words the operand of a bit takes; a bit without a row takes none.
+pub fn words_at(number: u32) -> usize
+    ensures { λ r. ⌜ r ≡ wordsAt number ⌝ }
+{
+    match mask_bit(number) {
+        Some(row) => row.words,
+        None => 0,
+    }
+}
+
+// How many words the operands of a mask take.
+pub fn mask_words(mask: u32) -> usize
+    ensures { λ r. ⌜ r ≡ wordsNeeded mask ⌝ }
+{
+    let mut image_ops = mask;
+    let mut words: usize = 0;
+    while image_ops != 0 {
+        let bit = image_ops.trailing_zeros();
+        words += words_at(bit);
+        image_ops ^= 1 << bit;
+    }
+    words
+}
+
+impl OperandRule {
+    // Whether an instruction of this rule honours the operand of a bit, or steps over it.
+    pub fn permits(self, number: u32) -> bool
+        ensures { λ r. ⌜ r ≡ permits self number ⌝ }
+    {
+        let Some(row) = mask_bit(number) else {
+            return false;
+        };
+        match (self, row.used_by) {
+            (_, UsedBy::Nobody) => true,
+            (OperandRule::Load, UsedBy::Samples) => false,
+            (OperandRule::Load, _) => true,
+            (OperandRule::Never | OperandRule::Store, _) => false,
+            (_, UsedBy::Loads) => false,
+            _ => true,
+        }
+    }
+
+    // Whether every bit of a mask is honoured or stepped over.
+    pub fn supports(self, mask: u32) -> bool
+        ensures { λ r. ⌜ r ≡ supports self mask ⌝ }
+    {
+        let mut image_ops = mask;
+        while image_ops != 0 {
+            let bit = image_ops.trailing_zeros();
+            if !self.permits(bit) {
+                return false;
+            }
+            image_ops ^= 1 << bit;
+        }
+        true
+    }
+}
