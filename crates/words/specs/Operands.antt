@@ -33,6 +33,11 @@ operandsOf mask ws first = record {
   «make_texel_available» = operand (idAt ws first) mask 8;
   «make_texel_visible» = operand (idAt ws first) mask 9 }
 
+abbrev pub noOperands : ℕ → ImageOperands
+noOperands mask = record {
+  mask = mask; bias = None; lod = None; grad = None; «const_offset» = None; sample = None;
+  «make_texel_available» = None; «make_texel_visible» = None }
+
 -- one operand more: that of bit j, whose words begin at an index
 abbrev pub taken : ℕ → List ℕ → ℕ → ℕ → ImageOperands → ImageOperands
 taken j ws first i ops = record {

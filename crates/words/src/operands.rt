@@ -3,7 +3,7 @@ ghost use mathlib.Core.Path.{_≡_};
 ghost use Prim.Native.Nat.{_+_, _≤_};
 ghost use lib.ListN.{length};
 ghost use Rattle.words.specs.Masks.{wordsAt, wordsNeeded};
-ghost use Rattle.words.specs.Operands.{idAt, taken, operandsOf};
+ghost use Rattle.words.specs.Operands.{idAt, noOperands, taken, operandsOf};
 use crate::masks::words_at;
 
 // An id, and the place of the word that holds it: what a refusal blames.
@@ -47,6 +47,21 @@ fn id_at(words: &[u32], first: usize, next: usize) -> IdRef
 }
 
 impl ImageOperands {
+    fn none(mask: u32) -> ImageOperands
+        ensures { λ r. ⌜ r ≡ noOperands mask ⌝ }
+    {
+        ImageOperands {
+            mask,
+            bias: None,
+            lod: None,
+            grad: None,
+            const_offset: None,
+            sample: None,
+            make_texel_available: None,
+            make_texel_visible: None,
+        }
+    }
+
     // These with the operand of one bit more, whose words begin at index `next`.
     fn with(self, bit: u32, words: &[u32], first: usize, next: usize) -> ImageOperands
         requires { ⌜ next + wordsAt bit ≤ length (now words) ⌝ ∗ ⌜ first ≤ 7 ⌝ }
@@ -67,4 +82,21 @@ impl ImageOperands {
             _ => self,
         }
     }
+}
+
+// The operands of a mask, lowest set bit first, from the words after it.
+pub(crate) fn take_operands(mask: u32, words: &[u32], first: usize) -> ImageOperands
+    requires { ⌜ wordsNeeded mask ≤ length (now words) ⌝ ∗ ⌜ first ≤ 7 ⌝ }
+    ensures { λ r. ⌜ r ≡ operandsOf mask (now (words .entry)) first ⌝ }
+{
+    let mut operands = ImageOperands::none(mask);
+    let mut next: usize = 0;
+    let mut image_ops = mask;
+    while image_ops != 0 {
+        let bit = image_ops.trailing_zeros();
+        operands = operands.with(bit, words, first, next);
+        next += words_at(bit);
+        image_ops ^= 1 << bit;
+    }
+    operands
 }

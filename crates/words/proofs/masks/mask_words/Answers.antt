@@ -1,20 +1,9 @@
-use Prim.Native.Nat.{ℕ, _+_, _*_, _<_, _≤_, _^_}
-use mathlib.Core.Path.{_≡_, sym, ap, _∙_}
+use mathlib.Core.Path.{sym, ap, _∙_}
 use native.Mathlib.Omega.{arith}
-use lib.Count.{trailingZeros}
-use Rattle.words.specs.Masks.{over, addWords, wordsAt, wordsNeeded}
-use Rattle.words.proofs.Walks.{Turn, turn, falls, over-turn, over-zero}
-use Rattle.words.proofs.Counts.{over-grows, over-few}
+use Rattle.words.specs.Masks.{over, addWords}
+use Rattle.words.proofs.Walks.{turn, falls, over-zero}
+use Rattle.words.proofs.Counts.{counted, small}
 use Rattle.words.proofs.masks.mask_words.Needs as need
-
--- the words counted after a turn, and those still to count, are those of the mask
-counted : (words w mask n t y : ℕ) → Turn 32 n t y → over addWords words n 32 ≡ wordsNeeded mask → w ≡ wordsAt t
-    → over addWords (words + w) y 32 ≡ wordsNeeded mask
-counted words w mask n t y h e q =
-    ap (λ v. over addWords (words + v) y 32) q ∙ sym (over-turn addWords words 32 n t y h 32 (h .inside)) ∙ e
-
-small : (a mask y : ℕ) → over addWords a y 32 ≡ wordsNeeded mask → a < 2 ^ 64
-small a mask y e = omega (arith, over-grows a y 32, over-few 0 mask 32)
 
 pub add-words : need.add-words
 add-words c =
