@@ -99,3 +99,13 @@ alsoPermits rule i ok = ok && permits rule i
 
 abbrev pub supports : OperandRule → ℕ → Bool
 supports rule mask = over (alsoPermits rule) true mask 32
+
+-- Implicit opcodes take neither Lod (bit 1) nor Grad (bit 2); explicit ones exactly one of them and no Bias (bit 0);
+-- gathers none of the three.
+abbrev pub allows : OperandRule → ℕ → Bool
+allows Never mask = true
+allows Implicit mask = not (has mask 1) && not (has mask 2)
+allows Explicit mask = not (has mask 0) && cond (has mask 1) (not (has mask 2)) (has mask 2)
+allows Gather mask = not (has mask 0) && (not (has mask 1) && not (has mask 2))
+allows Load mask = true
+allows Store mask = true

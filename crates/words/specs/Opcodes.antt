@@ -46,10 +46,13 @@ numberedIn (op ∷ ops) n = cond (eqb n (rowOf op .number)) (Some op) (numberedI
 abbrev pub numbered : ℕ → Option Opcode
 numbered n = numberedIn opcodes n
 
--- the place of the mask, if there is one: right after the fixed words
+-- where the words after the fixed ones begin: the place of the mask, if there is one
 abbrev pub maskPlace : Layout → ℕ
 maskPlace Couple = 5
 maskPlace Plain = 5
 maskPlace Component = 6
 maskPlace Reference = 6
 maskPlace Write = 4
+
+abbrev pub place : Opcode → ℕ
+place op = maskPlace (rowOf op .layout)

@@ -1,8 +1,12 @@
 // The words of one image instruction: what they say, or which word is wrong.
+mod instructions;
 mod masks;
 mod opcodes;
 mod operands;
 
+pub use instructions::Ids;
+pub use instructions::Instruction;
+pub use instructions::parse_instruction;
 pub use masks::MaskBit;
 pub use masks::UsedBy;
 pub use masks::mask_bit;

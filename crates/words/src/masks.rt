@@ -1,8 +1,14 @@
 // The bits of an image operands mask: how many words each takes, and what uses it.
 ghost use mathlib.Core.Path.{_≡_};
 ghost use Rattle.std.specs.declared.option.Option.the-variants.{Some};
-ghost use Rattle.words.specs.Masks.{bit, maskBit, wordsAt, permits, supports, wordsNeeded};
+ghost use Prim.Native.Nat.{_<_};
+ghost use Rattle.words.specs.Masks.{bit, maskBit, wordsAt, has, permits, supports, allows, wordsNeeded};
 use crate::opcodes::OperandRule;
+
+// The numbers of the bits that state a level.
+const BIAS: u32 = 0;
+const LOD: u32 = 1;
+const GRAD: u32 = 2;
 
 // Who honours an operand. The words of one that nobody uses are stepped over.
 #[derive(Clone, Copy)]
@@ -52,6 +58,14 @@ pub fn words_at(number: u32) -> usize
     }
 }
 
+// Whether a mask has a bit, by its number.
+fn has_bit(mask: u32, number: u32) -> bool
+    requires { ⌜ number < 32 ⌝ }
+    ensures { λ r. ⌜ r ≡ has mask number ⌝ }
+{
+    (mask >> number) % 2 == 1
+}
+
 // How many words the operands of a mask take.
 pub fn mask_words(mask: u32) -> usize
     ensures { λ r. ⌜ r ≡ wordsNeeded mask ⌝ }
@@ -97,5 +111,20 @@ impl OperandRule {
             image_ops ^= 1 << bit;
         }
         true
+    }
+
+    // Whether a mask of permitted bits states a level as an instruction of this rule has to.
+    pub fn allows(self, mask: u32) -> bool
+        ensures { λ r. ⌜ r ≡ allows self mask ⌝ }
+    {
+        let bias = has_bit(mask, BIAS);
+        let lod = has_bit(mask, LOD);
+        let grad = has_bit(mask, GRAD);
+        match self {
+            OperandRule::Implicit => !lod && !grad,
+            OperandRule::Explicit => !bias && lod != grad,
+            OperandRule::Gather => !bias && !lod && !grad,
+            _ => true,
+        }
     }
 }

@@ -1,6 +1,6 @@
 // The fourteen opcodes, and what the words of each look like.
 ghost use mathlib.Core.Path.{_≡_};
-ghost use Rattle.words.specs.Opcodes.{rowOf, numbered, maskPlace};
+ghost use Rattle.words.specs.Opcodes.{rowOf, numbered, place};
 
 // By SPIR-V's names, without their "Op".
 #[derive(Clone, Copy)]
@@ -110,14 +110,12 @@ impl Opcode {
             _ => None,
         }
     }
-}
 
-impl Layout {
     // Where the mask stands, if there is one: right after the fixed words.
     pub fn mask_place(self) -> usize
-        ensures { λ r. ⌜ r ≡ maskPlace self ⌝ }
+        ensures { λ r. ⌜ r ≡ place self ⌝ }
     {
-        match self {
+        match self.row().layout {
             Layout::Write => 4,
             Layout::Couple | Layout::Plain => 5,
             Layout::Component | Layout::Reference => 6,
