@@ -1,13 +1,8 @@
-use Prim.Native.Nat.{ℕ, _-_, _≤_}
+use Prim.Native.Nat.{ℕ}
 use mathlib.Core.Path.{_≡_, refl}
 use mathlib.Core.List.{List, [], _∷_}
 use native.Mathlib.Omega.{arith}
-use lib.ListN.{length, getD, take, drop, length-drop}
-use lib.Seq.{take-all}
-
--- what `rest @ ..` after k words holds
-pub rest-is : (ws : List ℕ) (k : ℕ) → take (length ws - k) (drop k ws) ≡ drop k ws
-rest-is ws k = take-all (length ws - k) (drop k ws) (omega (arith, length-drop k ws))
+use lib.ListN.{length, getD, drop}
 
 -- no words: nothing to read, and nothing after the first
 pub first-past : (ws : List ℕ) → length ws ≡ 0 → 0 ≡ getD ws 0 0

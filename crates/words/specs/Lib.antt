@@ -2,3 +2,4 @@ pub mod Opcodes
 pub mod Masks
 pub mod Operands
 pub mod Instructions
+pub mod Examples

@@ -1,9 +1,11 @@
 // The words of one image instruction: what they say, or which word is wrong.
+mod examples;
 mod instructions;
 mod masks;
 mod opcodes;
 mod operands;
 
+pub use examples::examples_stand;
 pub use instructions::Ids;
 pub use instructions::Instruction;
 pub use instructions::parse_instruction;

@@ -1,0 +1,3 @@
+mod numbers;
+
+fn main() {}

@@ -1,0 +1,7 @@
+use mathlib.Core.Path.{refl}
+use Rattle.words.specs.Masks.{has, over}
+use Rattle.words.proofs.examples.examples_stand.Needs as need
+
+pub returns : need.returns
+unfolding has over
+returns c = (refl, refl)
