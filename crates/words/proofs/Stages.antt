@@ -89,11 +89,10 @@ after ws op =
 at-count : (ws : List ℕ) (first : ℕ) (op : Opcode) → Ok first ≡ whole ws → Ok op ≡ listed first
     → (first ≡ getD ws 0 0) × (after ws op ≡ instruction ws)
 at-count ws first op p q =
-    let w = first-is (tooFewWords ws) (IncompleteData (length ws)) first (getD ws 0 0) p in
-    (
+    let w = first-is (tooFewWords ws) (IncompleteData (length ws)) first (getD ws 0 0) p in (
       w .1,
       ap (λ r. andThen r (after ws)) (q ∙ ap listed (w .1))
-        ∙ ap (λ b. refuse b (IncompleteData (length ws)) (andThen (okOr (opcodeOf ws) UnsupportedInstruction) (after ws))) (sym (w .0)),
+          ∙ ap (λ b. refuse b (IncompleteData (length ws)) (andThen (okOr (opcodeOf ws) UnsupportedInstruction) (after ws))) (sym (w .0)),
     )
 
 pub miscounted : (ws : List ℕ) (first : ℕ) (op : Opcode) → Ok first ≡ whole ws → Ok op ≡ listed first → (d : Error)
@@ -116,7 +115,7 @@ at-operands : (ws : List ℕ) (first : ℕ) (op : Opcode) (row : OpcodeRow) → 
 at-operands ws first op row p q u f e rest r =
     let a = at-count ws first op p q in
     ap (λ x. andThen (imageOperands op x) (λ operands. Ok (described op (part ws first) operands)))
-      (r ∙ ap (λ x. drop (maskPlace (x .layout)) (part ws first)) e)
+    (r ∙ ap (λ x. drop (maskPlace (x .layout)) (part ws first)) e)
     ∙ ap (λ x. andThen (imageOperands op (drop (place op) x)) (λ operands. Ok (described op x operands))) (part-is ws first (a .0))
     ∙ sym (passed _ _ u _ (f ∙ ap (fitting op) (a .0))) ∙ a .1
 

@@ -31,7 +31,8 @@ waiting left mask ws first = record {
   «const_offset» = wait (idAt ws first) mask left 3;
   sample = wait (idAt ws first) mask left 6;
   «make_texel_available» = wait (idAt ws first) mask left 8;
-  «make_texel_visible» = wait (idAt ws first) mask left 9 }
+  «make_texel_visible» = wait (idAt ws first) mask left 9;
+}
 
 -- the lowest bit that is left is the next one
 next-is : (mask n t y next : ℕ) → Turn 32 n t y → Ahead mask n next → wordsBelow mask t ≡ next
@@ -42,6 +43,7 @@ ahead-turn mask n t y next w h a q j b = at (cases-eq j t)
   where
     set : (j ≡ t → ⊥) → has n j ≡ true
     set d = sym (h .kept j d) ∙ b
+
     above : (j ≡ t → ⊥) → t < j
     above d = by (cases-order j t)
       where
@@ -49,6 +51,7 @@ ahead-turn mask n t y next w h a q j b = at (cases-eq j t)
         by (inl e) = absurd (d e)
         by (inr (inl m)) = absurd (both-ways (has n j) (h .lowest j m) (set d))
         by (inr (inr m)) = m
+
     at : (j ≡ t) ⊎ (j ≡ t → ⊥) → (has mask j ≡ true) × (over addWords (next + w) y j ≡ wordsBelow mask j)
     at (inl e) = absurd (both-ways (has y t) (h .gone) (subst (λ i. has y i ≡ true) e b))
     at (inr d) = (a j (set d) .0, ap (λ v. over addWords (next + v) y j) q ∙ sym (over-turn addWords next 32 n t y h j (above d)) ∙ a j (set d) .1)
@@ -61,9 +64,9 @@ field read mask n t y next h a j = at (cases-eq t j)
     at (inl e) =
         ap (λ b. cond b (Some (read next)) (wait read mask n j)) (eq-eqb t j e)
         ∙ subst (λ i. Some (read next) ≡ wait read mask y i) e (
-            sym (ap (λ b. cond b None (operand read mask t)) (h .gone)
-            ∙ ap (λ b. cond b (Some (read (wordsBelow mask t))) None) (a t (h .here) .0)
-            ∙ ap (λ i. Some (read i)) (next-is mask n t y next h a)))
+        sym (ap (λ b. cond b None (operand read mask t)) (h .gone)
+        ∙ ap (λ b. cond b (Some (read (wordsBelow mask t))) None) (a t (h .here) .0)
+        ∙ ap (λ i. Some (read i)) (next-is mask n t y next h a)))
     at (inr d) =
         ap (λ b. cond b (Some (read next)) (wait read mask n j)) (ne-eqb t j d)
         ∙ ap (λ b. cond b None (operand read mask j)) (sym (h .kept j (λ e. d (sym e))))

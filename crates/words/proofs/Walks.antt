@@ -82,28 +82,31 @@ glue k n t y u x p q h = subst (λ v. Turn k n v x) (sym p) (subst (λ v. Turn k
 
 even-turn : (k n t y : ℕ) → n % 2 ≡ 0 → Turn k (n / 2) t y → Turn (suc k) n (suc t) (y * 2)
 even-turn k n t y e h = record {
-      inside = let i = h .inside in omega arith;
-      less = let l = h .less in omega (arith, pow-suc 2 t);
-      here = has-suc n t ∙ h .here;
-      lowest = lower;
-      gone = has-twice y t ∙ h .gone;
-      kept = same }
+  inside = let i = h .inside in omega arith;
+  less = let l = h .less in omega (arith, pow-suc 2 t);
+  here = has-suc n t ∙ h .here;
+  lowest = lower;
+  gone = has-twice y t ∙ h .gone;
+  kept = same;
+}
   where
     lower : (j : ℕ) → j < suc t → has n j ≡ false
     lower zero l = has-even n e
     lower (suc j) l = has-suc n j ∙ h .lowest j (omega arith)
+
     same : (j : ℕ) → (j ≡ suc t → ⊥) → has (y * 2) j ≡ has n j
     same zero d = has-even (y * 2) (omega arith) ∙ sym (has-even n e)
     same (suc j) d = has-twice y j ∙ h .kept j (λ q. d (omega arith)) ∙ sym (has-suc n j)
 
 odd-turn : (k n : ℕ) → n % 2 ≡ 1 → Turn (suc k) n 0 (n / 2 * 2)
 odd-turn k n e = record {
-      inside = omega arith;
-      less = omega arith;
-      here = has-odd n e;
-      lowest = λ j l. absurd (omega arith);
-      gone = has-even (n / 2 * 2) (omega arith);
-      kept = same }
+  inside = omega arith;
+  less = omega arith;
+  here = has-odd n e;
+  lowest = λ j l. absurd (omega arith);
+  gone = has-even (n / 2 * 2) (omega arith);
+  kept = same;
+}
   where
     same : (j : ℕ) → (j ≡ 0 → ⊥) → has (n / 2 * 2) j ≡ has n j
     same zero d = absurd (d refl)
@@ -118,14 +121,14 @@ turn-of (suc k) n p h = at (λ q r. turn-of k (n / 2) q r) (parity n)
     at rest (inl e) =
         let t = trailingZeros k (n / 2) in
         glue (suc k) n (suc t) (bitXor (n / 2) (2 ^ t) * 2) (trailingZeros (suc k) n) (bitXor n (2 ^ trailingZeros (suc k) n))
-          (tz-even k n e)
-          (ap (λ u. bitXor n (2 ^ u)) (tz-even k n e) ∙ xor-even n t e)
-          (even-turn k n t _ e (rest (omega arith) (omega (arith, pow-suc 2 k))))
+        (tz-even k n e)
+        (ap (λ u. bitXor n (2 ^ u)) (tz-even k n e) ∙ xor-even n t e)
+        (even-turn k n t _ e (rest (omega arith) (omega (arith, pow-suc 2 k))))
     at rest (inr e) =
         glue (suc k) n 0 (n / 2 * 2) (trailingZeros (suc k) n) (bitXor n (2 ^ trailingZeros (suc k) n))
-          (tz-odd k n e)
-          (ap (λ u. bitXor n (2 ^ u)) (tz-odd k n e) ∙ xor-odd n e)
-          (odd-turn k n e)
+        (tz-odd k n e)
+        (ap (λ u. bitXor n (2 ^ u)) (tz-odd k n e) ∙ xor-odd n e)
+        (odd-turn k n e)
 
 -- the turn as the code writes it: `image_ops ^= 1 << image_ops.trailing_zeros()`
 pub turn : (n : ℕ) → (n ≡ 0 → ⊥) → n < 2 ^ 32
@@ -159,11 +162,13 @@ over-turn f a k n t y h (suc j) l = at (over-turn f a k n t y h j) (cases-order 
   where
     below : (i : ℕ) → i < t → has y i ≡ false
     below i m = h .kept i (λ q. omega arith) ∙ h .lowest i m
+
     here : t ≡ j → over f a n (suc j) ≡ over f (f t a) y (suc j)
     here e =
         subst (λ v. over f a n (suc v) ≡ over f (f t a) y (suc v)) e (
-          over-step f a n t true a (h .here) (over-none f a n t (h .lowest))
-          ∙ sym (over-step f (f t a) y t false (f t a) (h .gone) (over-none f (f t a) y t below)))
+        over-step f a n t true a (h .here) (over-none f a n t (h .lowest))
+        ∙ sym (over-step f (f t a) y t false (f t a) (h .gone) (over-none f (f t a) y t below)))
+
     at : (t < j → over f a n j ≡ over f (f t a) y j) → (t ≡ j) ⊎ ((t < j) ⊎ (j < t)) → over f a n (suc j) ≡ over f (f t a) y (suc j)
     at lower (inl e) = here e
     at lower (inr (inl m)) =

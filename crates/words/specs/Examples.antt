@@ -17,9 +17,9 @@ use Rattle.words.specs.Instructions.{instruction}
 -- masks, and the words that their operands need
 abbrev pub neededWords : List (ℕ × ℕ)
 neededWords =
-    (0x9, 2) ∷ -- Bias and ConstOffset
-    (0x4, 2) ∷ -- Grad
-    (0x600, 1) ∷ -- MakeTexelVisible and NonPrivateTexel
+    (0x9, 2) ∷  -- Bias and ConstOffset
+    (0x4, 2) ∷  -- Grad
+    (0x600, 1) ∷  -- MakeTexelVisible and NonPrivateTexel
     (0x47, 5) ∷ (0x4f00, 2) ∷ (0, 0) ∷ []
 
 -- words, and the fault that they give
@@ -37,7 +37,7 @@ refusedWords =
     (0x60056 ∷ 4 ∷ 31 ∷ 10 ∷ 11 ∷ 0 ∷ [], fault 2 Words 0) ∷
     -- a word too many after the mask; the same with a bit that is not supported, which is looked for first
     (0x80057 ∷ 4 ∷ 31 ∷ 30 ∷ 20 ∷ 0x1 ∷ 21 ∷ 21 ∷ [], fault 2 Words 0) ∷
-    (0x80057 ∷ 4 ∷ 31 ∷ 30 ∷ 20 ∷ 0x11 ∷ 21 ∷ [] , fault 1 Words 7) ∷
+    (0x80057 ∷ 4 ∷ 31 ∷ 30 ∷ 20 ∷ 0x11 ∷ 21 ∷ [], fault 1 Words 7) ∷
     (0x80063 ∷ 10 ∷ 20 ∷ 21 ∷ 0x1 ∷ 22 ∷ 23 ∷ 24 ∷ [], fault 4 Words 4) ∷
     -- a gather with Lod
     (0x80060 ∷ 4 ∷ 31 ∷ 30 ∷ 20 ∷ 12 ∷ 0x2 ∷ 21 ∷ [], fault 7 Rules 6) ∷ []
@@ -49,4 +49,4 @@ refusalOf (Err e) = Some (faultOf e)
 -- each row of the first table holds of the words needed, each of the second of the answer
 abbrev pub Examples : Type 0
 Examples = (map (λ row. wordsNeeded (row .0)) neededWords ≡ map (λ row. row .1) neededWords)
-  × (map (λ row. refusalOf (instruction (row .0))) refusedWords ≡ map (λ row. Some (row .1)) refusedWords)
+    × (map (λ row. refusalOf (instruction (row .0))) refusedWords ≡ map (λ row. Some (row .1)) refusedWords)

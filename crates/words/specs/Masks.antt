@@ -17,16 +17,16 @@ bit n u = record { words = n; «used_by» = u }
 -- The table: the bit's number, then the words that it takes and who honours it. Other bits have no row.
 abbrev pub maskTable : List (ℕ × MaskBit)
 maskTable =
-    (0, bit 1 Samples) ∷ -- 1 Bias
-    (1, bit 1 SamplesAndLoads) ∷ -- 2 Lod
-    (2, bit 2 Samples) ∷ -- 4 Grad
-    (3, bit 1 Samples) ∷ -- 8 ConstOffset
-    (6, bit 1 Loads) ∷ -- 40 Sample
-    (8, bit 1 Nobody) ∷ -- 100 MakeTexelAvailable
-    (9, bit 1 Nobody) ∷ -- 200 MakeTexelVisible
-    (10, bit 0 Nobody) ∷ -- 400 NonPrivateTexel
-    (11, bit 0 Nobody) ∷ -- 800 VolatileTexel
-    (14, bit 0 Nobody) ∷ [] -- 4000 Nontemporal
+    (0, bit 1 Samples) ∷  -- 1 Bias
+    (1, bit 1 SamplesAndLoads) ∷  -- 2 Lod
+    (2, bit 2 Samples) ∷  -- 4 Grad
+    (3, bit 1 Samples) ∷  -- 8 ConstOffset
+    (6, bit 1 Loads) ∷  -- 40 Sample
+    (8, bit 1 Nobody) ∷  -- 100 MakeTexelAvailable
+    (9, bit 1 Nobody) ∷  -- 200 MakeTexelVisible
+    (10, bit 0 Nobody) ∷  -- 400 NonPrivateTexel
+    (11, bit 0 Nobody) ∷  -- 800 VolatileTexel
+    (14, bit 0 Nobody) ∷ []  -- 4000 Nontemporal
 
 abbrev pub bitIn : List (ℕ × MaskBit) → ℕ → Option MaskBit
 bitIn [] j = None

@@ -35,8 +35,8 @@ rowOf ImageWrite = row 99 4 Write Store
 
 abbrev pub opcodes : List Opcode
 opcodes = SampledImage ∷ ImageSampleImplicitLod ∷ ImageSampleExplicitLod ∷ ImageSampleDrefImplicitLod ∷ ImageSampleDrefExplicitLod
-  ∷ ImageSampleProjImplicitLod ∷ ImageSampleProjExplicitLod ∷ ImageSampleProjDrefImplicitLod ∷ ImageSampleProjDrefExplicitLod
-  ∷ ImageFetch ∷ ImageGather ∷ ImageDrefGather ∷ ImageRead ∷ ImageWrite ∷ []
+    ∷ ImageSampleProjImplicitLod ∷ ImageSampleProjExplicitLod ∷ ImageSampleProjDrefImplicitLod ∷ ImageSampleProjDrefExplicitLod
+    ∷ ImageFetch ∷ ImageGather ∷ ImageDrefGather ∷ ImageRead ∷ ImageWrite ∷ []
 
 abbrev pub numberedIn : List Opcode → ℕ → Option Opcode
 numberedIn [] n = None

@@ -31,12 +31,20 @@ operandsOf mask ws first = record {
   «const_offset» = operand (idAt ws first) mask 3;
   sample = operand (idAt ws first) mask 6;
   «make_texel_available» = operand (idAt ws first) mask 8;
-  «make_texel_visible» = operand (idAt ws first) mask 9 }
+  «make_texel_visible» = operand (idAt ws first) mask 9;
+}
 
 abbrev pub noOperands : ℕ → ImageOperands
 noOperands mask = record {
-  mask = mask; bias = None; lod = None; grad = None; «const_offset» = None; sample = None;
-  «make_texel_available» = None; «make_texel_visible» = None }
+  mask = mask;
+  bias = None;
+  lod = None;
+  grad = None;
+  «const_offset» = None;
+  sample = None;
+  «make_texel_available» = None;
+  «make_texel_visible» = None;
+}
 
 -- one operand more: that of bit j, whose words begin at an index
 abbrev pub taken : ℕ → List ℕ → ℕ → ℕ → ImageOperands → ImageOperands
@@ -48,4 +56,5 @@ taken j ws first i ops = record {
   «const_offset» = cond (eqb j 3) (Some (idAt ws first i)) (ops .«const_offset»);
   sample = cond (eqb j 6) (Some (idAt ws first i)) (ops .sample);
   «make_texel_available» = cond (eqb j 8) (Some (idAt ws first i)) (ops .«make_texel_available»);
-  «make_texel_visible» = cond (eqb j 9) (Some (idAt ws first i)) (ops .«make_texel_visible») }
+  «make_texel_visible» = cond (eqb j 9) (Some (idAt ws first i)) (ops .«make_texel_visible»);
+}

@@ -67,26 +67,42 @@ impl Opcode {
             Layout::Couple => count != row.least,
             _ => count < row.least,
         };
-        if wrong { Err(Error::InvalidOperandCount) } else { Ok(()) }
+        if wrong {
+            Err(Error::InvalidOperandCount)
+        } else {
+            Ok(())
+        }
     }
 
     fn expect_supported(self, mask: u32) -> Result<(), Error>
         ensures { λ r. ⌜ r ≡ check (not (supports (rowOf self .rule) mask)) (UnsupportedOperand (place self)) ⌝ }
     {
-        if self.row().rule.supports(mask) { Ok(()) } else { Err(Error::UnsupportedOperand(self.mask_place())) }
+        if self.row().rule.supports(mask) {
+            Ok(())
+        } else {
+            Err(Error::UnsupportedOperand(self.mask_place()))
+        }
     }
 
     fn expect_allowed(self, mask: u32) -> Result<(), Error>
         ensures { λ r. ⌜ r ≡ check (not (allows (rowOf self .rule) mask)) (InvalidOperand (place self)) ⌝ }
     {
-        if self.row().rule.allows(mask) { Ok(()) } else { Err(Error::InvalidOperand(self.mask_place())) }
+        if self.row().rule.allows(mask) {
+            Ok(())
+        } else {
+            Err(Error::InvalidOperand(self.mask_place()))
+        }
     }
 }
 
 fn expect_words(mask: u32, operands: &[u32]) -> Result<(), Error>
     ensures { λ r. ⌜ r ≡ check (not (eqb (length (now (operands .entry))) (wordsNeeded mask))) InvalidOperandCount ⌝ }
 {
-    if operands.len() == mask_words(mask) { Ok(()) } else { Err(Error::InvalidOperandCount) }
+    if operands.len() == mask_words(mask) {
+        Ok(())
+    } else {
+        Err(Error::InvalidOperandCount)
+    }
 }
 
 impl Ids {
@@ -105,9 +121,23 @@ impl Ids {
     fn of_result(result_type: u32, result: u32, image: u32) -> Ids
         ensures { λ r. ⌜ r ≡ ofResult «result_type» result image ⌝ }
     {
-        let result_type = IdRef { id: result_type, place: 1 };
-        let result = IdRef { id: result, place: 2 };
-        Ids { result_type, result, image: IdRef { id: image, place: 3 }, ..Ids::NONE }
+        let result_type = IdRef {
+            id: result_type,
+            place: 1,
+        };
+        let result = IdRef {
+            id: result,
+            place: 2,
+        };
+        Ids {
+            result_type,
+            result,
+            image: IdRef {
+                id: image,
+                place: 3,
+            },
+            ..Ids::NONE
+        }
     }
 }
 
@@ -120,26 +150,109 @@ fn split_words(layout: Layout, words: &[u32]) -> (Ids, &[u32])
     match (layout, words) {
         (Layout::Couple, [_, result_type, result, image, sampler, rest @ ..]) => {
             let ids = Ids::of_result(*result_type, *result, *image);
-            (Ids { sampler: IdRef { id: *sampler, place: 4 }, ..ids }, rest)
+            (
+                Ids {
+                    sampler: IdRef {
+                        id: *sampler,
+                        place: 4,
+                    },
+                    ..ids
+                },
+                rest,
+            )
         }
         (Layout::Plain, [_, result_type, result, image, coordinate, rest @ ..]) => {
             let ids = Ids::of_result(*result_type, *result, *image);
-            (Ids { coordinate: IdRef { id: *coordinate, place: 4 }, ..ids }, rest)
+            (
+                Ids {
+                    coordinate: IdRef {
+                        id: *coordinate,
+                        place: 4,
+                    },
+                    ..ids
+                },
+                rest,
+            )
         }
-        (Layout::Component, [_, result_type, result, image, coordinate, component, rest @ ..]) => {
+        (
+            Layout::Component,
+            [
+                _,
+                result_type,
+                result,
+                image,
+                coordinate,
+                component,
+                rest @ ..,
+            ],
+        ) => {
             let ids = Ids::of_result(*result_type, *result, *image);
-            let coordinate = IdRef { id: *coordinate, place: 4 };
-            (Ids { coordinate, component: IdRef { id: *component, place: 5 }, ..ids }, rest)
+            let coordinate = IdRef {
+                id: *coordinate,
+                place: 4,
+            };
+            (
+                Ids {
+                    coordinate,
+                    component: IdRef {
+                        id: *component,
+                        place: 5,
+                    },
+                    ..ids
+                },
+                rest,
+            )
         }
-        (Layout::Reference, [_, result_type, result, image, coordinate, reference, rest @ ..]) => {
+        (
+            Layout::Reference,
+            [
+                _,
+                result_type,
+                result,
+                image,
+                coordinate,
+                reference,
+                rest @ ..,
+            ],
+        ) => {
             let ids = Ids::of_result(*result_type, *result, *image);
-            let coordinate = IdRef { id: *coordinate, place: 4 };
-            (Ids { coordinate, reference: IdRef { id: *reference, place: 5 }, ..ids }, rest)
+            let coordinate = IdRef {
+                id: *coordinate,
+                place: 4,
+            };
+            (
+                Ids {
+                    coordinate,
+                    reference: IdRef {
+                        id: *reference,
+                        place: 5,
+                    },
+                    ..ids
+                },
+                rest,
+            )
         }
         (Layout::Write, [_, image, coordinate, value, rest @ ..]) => {
-            let image = IdRef { id: *image, place: 1 };
-            let coordinate = IdRef { id: *coordinate, place: 2 };
-            (Ids { image, coordinate, value: IdRef { id: *value, place: 3 }, ..Ids::NONE }, rest)
+            let image = IdRef {
+                id: *image,
+                place: 1,
+            };
+            let coordinate = IdRef {
+                id: *coordinate,
+                place: 2,
+            };
+            (
+                Ids {
+                    image,
+                    coordinate,
+                    value: IdRef {
+                        id: *value,
+                        place: 3,
+                    },
+                    ..Ids::NONE
+                },
+                rest,
+            )
         }
         _ => unreachable(),
     }
@@ -177,5 +290,9 @@ pub fn parse_instruction(words: &[u32]) -> Result<Instruction, Error>
     opcode.expect_count(count)?;
     let (ids, rest) = split_words(opcode.row().layout, &words[0..count]);
     let operands = parse_image_operands(opcode, rest)?;
-    Ok(Instruction { opcode, ids, operands })
+    Ok(Instruction {
+        opcode,
+        ids,
+        operands,
+    })
 }

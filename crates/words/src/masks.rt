@@ -2,12 +2,14 @@
 ghost use mathlib.Core.Path.{_≡_};
 ghost use Rattle.std.specs.declared.option.Option.the-variants.{Some};
 ghost use Prim.Native.Nat.{_<_};
-ghost use Rattle.words.specs.Masks.{bit, maskBit, wordsAt, has, permits, supports, allows, wordsNeeded};
+ghost use Rattle.words.specs.Masks.{bit, maskBit, wordsAt, has, isSample, permits, supports, allows, wordsNeeded};
 use crate::opcodes::OperandRule;
 
 // The numbers of the bits that state a level.
 const BIAS: u32 = 0;
+
 const LOD: u32 = 1;
+
 const GRAD: u32 = 2;
 
 // Who honours an operand. The words of one that nobody uses are stepped over.
@@ -81,6 +83,16 @@ pub fn mask_words(mask: u32) -> usize
 }
 
 impl OperandRule {
+    // Whether this is the rule of a sample or gather, whose image is a sampled image.
+    pub fn is_sample(self) -> bool
+        ensures { λ r. ⌜ r ≡ isSample self ⌝ }
+    {
+        match self {
+            OperandRule::Implicit | OperandRule::Explicit | OperandRule::Gather => true,
+            OperandRule::Never | OperandRule::Load | OperandRule::Store => false,
+        }
+    }
+
     // Whether an instruction of this rule honours the operand of a bit, or steps over it.
     pub fn permits(self, number: u32) -> bool
         ensures { λ r. ⌜ r ≡ permits self number ⌝ }

@@ -63,7 +63,12 @@ pub struct OpcodeRow {
 const fn opcode_row(number: u32, least: usize, layout: Layout, rule: OperandRule) -> OpcodeRow
     ensures { λ r. ⌜ r ≡ record { number = number; least = least; layout = layout; rule = rule } ⌝ }
 {
-    OpcodeRow { number, least, layout, rule }
+    OpcodeRow {
+        number,
+        least,
+        layout,
+        rule,
+    }
 }
 
 impl Opcode {
@@ -72,14 +77,54 @@ impl Opcode {
     {
         match self {
             Opcode::SampledImage => opcode_row(86, 5, Layout::Couple, OperandRule::Never),
-            Opcode::ImageSampleImplicitLod => opcode_row(87, 5, Layout::Plain, OperandRule::Implicit),
-            Opcode::ImageSampleExplicitLod => opcode_row(88, 7, Layout::Plain, OperandRule::Explicit),
-            Opcode::ImageSampleDrefImplicitLod => opcode_row(89, 6, Layout::Reference, OperandRule::Implicit),
-            Opcode::ImageSampleDrefExplicitLod => opcode_row(90, 8, Layout::Reference, OperandRule::Explicit),
-            Opcode::ImageSampleProjImplicitLod => opcode_row(91, 5, Layout::Plain, OperandRule::Implicit),
-            Opcode::ImageSampleProjExplicitLod => opcode_row(92, 7, Layout::Plain, OperandRule::Explicit),
-            Opcode::ImageSampleProjDrefImplicitLod => opcode_row(93, 6, Layout::Reference, OperandRule::Implicit),
-            Opcode::ImageSampleProjDrefExplicitLod => opcode_row(94, 8, Layout::Reference, OperandRule::Explicit),
+            Opcode::ImageSampleImplicitLod => opcode_row(
+                87,
+                5,
+                Layout::Plain,
+                OperandRule::Implicit,
+            ),
+            Opcode::ImageSampleExplicitLod => opcode_row(
+                88,
+                7,
+                Layout::Plain,
+                OperandRule::Explicit,
+            ),
+            Opcode::ImageSampleDrefImplicitLod => opcode_row(
+                89,
+                6,
+                Layout::Reference,
+                OperandRule::Implicit,
+            ),
+            Opcode::ImageSampleDrefExplicitLod => opcode_row(
+                90,
+                8,
+                Layout::Reference,
+                OperandRule::Explicit,
+            ),
+            Opcode::ImageSampleProjImplicitLod => opcode_row(
+                91,
+                5,
+                Layout::Plain,
+                OperandRule::Implicit,
+            ),
+            Opcode::ImageSampleProjExplicitLod => opcode_row(
+                92,
+                7,
+                Layout::Plain,
+                OperandRule::Explicit,
+            ),
+            Opcode::ImageSampleProjDrefImplicitLod => opcode_row(
+                93,
+                6,
+                Layout::Reference,
+                OperandRule::Implicit,
+            ),
+            Opcode::ImageSampleProjDrefExplicitLod => opcode_row(
+                94,
+                8,
+                Layout::Reference,
+                OperandRule::Explicit,
+            ),
             Opcode::ImageFetch => opcode_row(95, 5, Layout::Plain, OperandRule::Load),
             Opcode::ImageGather => opcode_row(96, 6, Layout::Component, OperandRule::Gather),
             Opcode::ImageDrefGather => opcode_row(97, 6, Layout::Reference, OperandRule::Gather),

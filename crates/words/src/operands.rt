@@ -43,7 +43,10 @@ fn id_at(words: &[u32], first: usize, next: usize) -> IdRef
     requires { ⌜ next + 1 ≤ length (now words) ⌝ ∗ ⌜ first ≤ 7 ⌝ }
     ensures { λ r. ⌜ r ≡ idAt (now (words .entry)) first next ⌝ }
 {
-    IdRef { id: words[next], place: first + next }
+    IdRef {
+        id: words[next],
+        place: first + next,
+    }
 }
 
 impl ImageOperands {
@@ -68,17 +71,38 @@ impl ImageOperands {
         ensures { λ r. ⌜ r ≡ taken bit (now (words .entry)) first next self ⌝ }
     {
         match bit {
-            0 => ImageOperands { bias: Some(id_at(words, first, next)), ..self },
-            1 => ImageOperands { lod: Some(id_at(words, first, next)), ..self },
+            0 => ImageOperands {
+                bias: Some(id_at(words, first, next)),
+                ..self
+            },
+            1 => ImageOperands {
+                lod: Some(id_at(words, first, next)),
+                ..self
+            },
             2 => {
                 let x = id_at(words, first, next);
                 let y = id_at(words, first, next + 1);
-                ImageOperands { grad: Some(Gradient { x, y }), ..self }
+                ImageOperands {
+                    grad: Some(Gradient { x, y }),
+                    ..self
+                }
             }
-            3 => ImageOperands { const_offset: Some(id_at(words, first, next)), ..self },
-            6 => ImageOperands { sample: Some(id_at(words, first, next)), ..self },
-            8 => ImageOperands { make_texel_available: Some(id_at(words, first, next)), ..self },
-            9 => ImageOperands { make_texel_visible: Some(id_at(words, first, next)), ..self },
+            3 => ImageOperands {
+                const_offset: Some(id_at(words, first, next)),
+                ..self
+            },
+            6 => ImageOperands {
+                sample: Some(id_at(words, first, next)),
+                ..self
+            },
+            8 => ImageOperands {
+                make_texel_available: Some(id_at(words, first, next)),
+                ..self
+            },
+            9 => ImageOperands {
+                make_texel_visible: Some(id_at(words, first, next)),
+                ..self
+            },
             _ => self,
         }
     }

@@ -24,12 +24,11 @@ loop-image-ops-less c = falls 32 _ _ _ (turn (c .loop-image-ops .image-ops) (c .
 pub loop-image-ops-again : need.loop-image-ops-again
 loop-image-ops-again c =
     let h = turn (c .loop-image-ops .image-ops) (c .loop-image-ops-test .taken) (c .loop-image-ops .inv .0) in
-    let l = falls 32 _ _ _ h in
-    (
+    let l = falls 32 _ _ _ h in (
       omega (arith, l, c .loop-image-ops .inv .0),
       c .with-operands .ensures
-        ∙ ap (λ ops. taken (trailingZeros 32 (c .loop-image-ops .image-ops)) (c .args .words .now) (c .args .first) (c .loop-image-ops .next) ops) (c .loop-image-ops .inv .1)
-        ∙ waiting-turn (c .args .mask) _ _ _ (c .loop-image-ops .next) (c .args .words .now) (c .args .first) h (c .loop-image-ops .inv .2),
+          ∙ ap (λ ops. taken (trailingZeros 32 (c .loop-image-ops .image-ops)) (c .args .words .now) (c .args .first) (c .loop-image-ops .next) ops) (c .loop-image-ops .inv .1)
+          ∙ waiting-turn (c .args .mask) _ _ _ (c .loop-image-ops .next) (c .args .words .now) (c .args .first) h (c .loop-image-ops .inv .2),
       ahead-turn (c .args .mask) _ _ _ (c .loop-image-ops .next) _ h (c .loop-image-ops .inv .2) (c .words-at-next .ensures),
       counted _ _ (c .args .mask) _ _ _ h (c .loop-image-ops .inv .3) (c .words-at-next .ensures),
     )
