@@ -1,6 +1,10 @@
 // The sixteen refusals, and what a refused call hands back.
 ghost use mathlib.Core.Path.{_≡_};
-ghost use Rattle.records.specs.Refusals.{faultOf};
+ghost use Rattle.records.specs.Refusals.{faultAt, faultOf};
+use self::Layer::Ids;
+use self::Layer::Memory;
+use self::Layer::Rules;
+use self::Layer::Words;
 
 // A refused call answers one of these. A variant carries the place of the word that it blames, where
 // that place is not the same in every instruction; the first one carries the number of words given.
@@ -41,91 +45,37 @@ pub struct Fault {
     pub place: usize,
 }
 
+const fn fault(number: u8, layer: Layer, place: usize) -> Fault
+    ensures { λ r. ⌜ r ≡ faultAt number layer place ⌝ }
+{
+    Fault {
+        number,
+        layer,
+        place,
+    }
+}
+
 impl Error {
     pub fn fault(self) -> Fault
         ensures { λ r. ⌜ r ≡ faultOf self ⌝ }
     {
         match self {
-            Error::IncompleteData(place) => Fault {
-                number: 1,
-                layer: Layer::Words,
-                place,
-            },
-            Error::InvalidOperandCount => Fault {
-                number: 2,
-                layer: Layer::Words,
-                place: 0,
-            },
-            Error::UnsupportedInstruction => Fault {
-                number: 3,
-                layer: Layer::Words,
-                place: 0,
-            },
-            Error::UnsupportedOperand(place) => Fault {
-                number: 4,
-                layer: Layer::Words,
-                place,
-            },
-            Error::InvalidId(place) => Fault {
-                number: 5,
-                layer: Layer::Ids,
-                place,
-            },
-            Error::InvalidResultId(place) => Fault {
-                number: 6,
-                layer: Layer::Ids,
-                place,
-            },
-            Error::InvalidOperand(place) => Fault {
-                number: 7,
-                layer: Layer::Rules,
-                place,
-            },
-            Error::InvalidImageExpression(place) => Fault {
-                number: 8,
-                layer: Layer::Rules,
-                place,
-            },
-            Error::InvalidGlobalVar(place) => Fault {
-                number: 9,
-                layer: Layer::Rules,
-                place,
-            },
-            Error::InvalidImage(place) => Fault {
-                number: 10,
-                layer: Layer::Rules,
-                place,
-            },
-            Error::InvalidCoordinate(place) => Fault {
-                number: 11,
-                layer: Layer::Rules,
-                place,
-            },
-            Error::InvalidVectorType(place) => Fault {
-                number: 12,
-                layer: Layer::Rules,
-                place,
-            },
-            Error::InvalidType(place) => Fault {
-                number: 13,
-                layer: Layer::Rules,
-                place,
-            },
-            Error::MissingType(place) => Fault {
-                number: 14,
-                layer: Layer::Rules,
-                place,
-            },
-            Error::Full => Fault {
-                number: 15,
-                layer: Layer::Memory,
-                place: 0,
-            },
-            Error::Mismatch => Fault {
-                number: 16,
-                layer: Layer::Memory,
-                place: 0,
-            },
+            Error::IncompleteData(given) => fault(1, Words, given),
+            Error::InvalidOperandCount => fault(2, Words, 0),
+            Error::UnsupportedInstruction => fault(3, Words, 0),
+            Error::UnsupportedOperand(mask) => fault(4, Words, mask),
+            Error::InvalidId(id) => fault(5, Ids, id),
+            Error::InvalidResultId(id) => fault(6, Ids, id),
+            Error::InvalidOperand(word) => fault(7, Rules, word),
+            Error::InvalidImageExpression(image) => fault(8, Rules, image),
+            Error::InvalidGlobalVar(image) => fault(9, Rules, image),
+            Error::InvalidImage(image) => fault(10, Rules, image),
+            Error::InvalidCoordinate(coordinate) => fault(11, Rules, coordinate),
+            Error::InvalidVectorType(value) => fault(12, Rules, value),
+            Error::InvalidType(ty) => fault(13, Rules, ty),
+            Error::MissingType(coordinate) => fault(14, Rules, coordinate),
+            Error::Full => fault(15, Memory, 0),
+            Error::Mismatch => fault(16, Memory, 0),
         }
     }
 }

@@ -9,7 +9,7 @@ use Rattle.std.specs.declared.option.Option.the-variants.{Some, None}
 use Rattle.records.specs.declared.refusals.Error.{Error}
 use Rattle.records.specs.declared.refusals.Fault.{Fault}
 use Rattle.records.specs.declared.refusals.Layer.the-variants.{Words, Rules}
-use Rattle.records.specs.Refusals.{fault, faultOf}
+use Rattle.records.specs.Refusals.{faultAt, faultOf}
 use Rattle.words.specs.declared.instructions.Instruction.{Instruction}
 use Rattle.words.specs.Masks.{wordsNeeded}
 use Rattle.words.specs.Instructions.{instruction}
@@ -26,21 +26,21 @@ neededWords =
 abbrev pub refusedWords : List (List ℕ × Fault)
 refusedWords =
     -- a mask of Offset
-    (0x70057 ∷ 4 ∷ 31 ∷ 30 ∷ 20 ∷ 0x10 ∷ 21 ∷ [], fault 4 Words 5) ∷
+    (0x70057 ∷ 4 ∷ 31 ∷ 30 ∷ 20 ∷ 0x10 ∷ 21 ∷ [], faultAt 4 Words 5) ∷
     -- opcode 87 with a mask of Lod
-    (0x70057 ∷ 4 ∷ 31 ∷ 30 ∷ 20 ∷ 0x2 ∷ 21 ∷ [], fault 7 Rules 5) ∷
+    (0x70057 ∷ 4 ∷ 31 ∷ 30 ∷ 20 ∷ 0x2 ∷ 21 ∷ [], faultAt 7 Rules 5) ∷
     -- no words; fewer than the count says, of an opcode that is not listed; a count of 0; 86 with a word more
-    ([], fault 1 Words 0) ∷
-    (0x60010 ∷ 1 ∷ [], fault 1 Words 2) ∷
-    (0x57 ∷ [], fault 2 Words 0) ∷
-    (0x10 ∷ [], fault 3 Words 0) ∷
-    (0x60056 ∷ 4 ∷ 31 ∷ 10 ∷ 11 ∷ 0 ∷ [], fault 2 Words 0) ∷
+    ([], faultAt 1 Words 0) ∷
+    (0x60010 ∷ 1 ∷ [], faultAt 1 Words 2) ∷
+    (0x57 ∷ [], faultAt 2 Words 0) ∷
+    (0x10 ∷ [], faultAt 3 Words 0) ∷
+    (0x60056 ∷ 4 ∷ 31 ∷ 10 ∷ 11 ∷ 0 ∷ [], faultAt 2 Words 0) ∷
     -- a word too many after the mask; the same with a bit that is not supported, which is looked for first
-    (0x80057 ∷ 4 ∷ 31 ∷ 30 ∷ 20 ∷ 0x1 ∷ 21 ∷ 21 ∷ [], fault 2 Words 0) ∷
-    (0x80057 ∷ 4 ∷ 31 ∷ 30 ∷ 20 ∷ 0x11 ∷ 21 ∷ [], fault 1 Words 7) ∷
-    (0x80063 ∷ 10 ∷ 20 ∷ 21 ∷ 0x1 ∷ 22 ∷ 23 ∷ 24 ∷ [], fault 4 Words 4) ∷
+    (0x80057 ∷ 4 ∷ 31 ∷ 30 ∷ 20 ∷ 0x1 ∷ 21 ∷ 21 ∷ [], faultAt 2 Words 0) ∷
+    (0x80057 ∷ 4 ∷ 31 ∷ 30 ∷ 20 ∷ 0x11 ∷ 21 ∷ [], faultAt 1 Words 7) ∷
+    (0x80063 ∷ 10 ∷ 20 ∷ 21 ∷ 0x1 ∷ 22 ∷ 23 ∷ 24 ∷ [], faultAt 4 Words 4) ∷
     -- a gather with Lod
-    (0x80060 ∷ 4 ∷ 31 ∷ 30 ∷ 20 ∷ 12 ∷ 0x2 ∷ 21 ∷ [], fault 7 Rules 6) ∷ []
+    (0x80060 ∷ 4 ∷ 31 ∷ 30 ∷ 20 ∷ 12 ∷ 0x2 ∷ 21 ∷ [], faultAt 7 Rules 6) ∷ []
 
 abbrev pub refusalOf : Result Instruction Error → Option Fault
 refusalOf (Ok i) = None

@@ -13,25 +13,25 @@ use Rattle.words.specs.declared.opcodes.OperandRule.{OperandRule}
 use Rattle.words.specs.declared.opcodes.OperandRule.the-variants.{Never, Implicit, Explicit, Gather, Load, Store}
 use Rattle.words.specs.declared.opcodes.OpcodeRow.{OpcodeRow}
 
-abbrev pub row : ℕ → ℕ → Layout → OperandRule → OpcodeRow
-row n l w o = record { number = n; least = l; layout = w; rule = o }
+abbrev pub opcodeRow : ℕ → ℕ → Layout → OperandRule → OpcodeRow
+opcodeRow n l w o = record { number = n; least = l; layout = w; rule = o }
 
 -- The table: number, least word count, fixed words, and which operands a mask may name.
 abbrev pub rowOf : Opcode → OpcodeRow
-rowOf SampledImage = row 86 5 Couple Never
-rowOf ImageSampleImplicitLod = row 87 5 Plain Implicit
-rowOf ImageSampleExplicitLod = row 88 7 Plain Explicit
-rowOf ImageSampleDrefImplicitLod = row 89 6 Reference Implicit
-rowOf ImageSampleDrefExplicitLod = row 90 8 Reference Explicit
-rowOf ImageSampleProjImplicitLod = row 91 5 Plain Implicit
-rowOf ImageSampleProjExplicitLod = row 92 7 Plain Explicit
-rowOf ImageSampleProjDrefImplicitLod = row 93 6 Reference Implicit
-rowOf ImageSampleProjDrefExplicitLod = row 94 8 Reference Explicit
-rowOf ImageFetch = row 95 5 Plain Load
-rowOf ImageGather = row 96 6 Component Gather
-rowOf ImageDrefGather = row 97 6 Reference Gather
-rowOf ImageRead = row 98 5 Plain Load
-rowOf ImageWrite = row 99 4 Write Store
+rowOf SampledImage = opcodeRow 86 5 Couple Never
+rowOf ImageSampleImplicitLod = opcodeRow 87 5 Plain Implicit
+rowOf ImageSampleExplicitLod = opcodeRow 88 7 Plain Explicit
+rowOf ImageSampleDrefImplicitLod = opcodeRow 89 6 Reference Implicit
+rowOf ImageSampleDrefExplicitLod = opcodeRow 90 8 Reference Explicit
+rowOf ImageSampleProjImplicitLod = opcodeRow 91 5 Plain Implicit
+rowOf ImageSampleProjExplicitLod = opcodeRow 92 7 Plain Explicit
+rowOf ImageSampleProjDrefImplicitLod = opcodeRow 93 6 Reference Implicit
+rowOf ImageSampleProjDrefExplicitLod = opcodeRow 94 8 Reference Explicit
+rowOf ImageFetch = opcodeRow 95 5 Plain Load
+rowOf ImageGather = opcodeRow 96 6 Component Gather
+rowOf ImageDrefGather = opcodeRow 97 6 Reference Gather
+rowOf ImageRead = opcodeRow 98 5 Plain Load
+rowOf ImageWrite = opcodeRow 99 4 Write Store
 
 abbrev pub opcodes : List Opcode
 opcodes = SampledImage ∷ ImageSampleImplicitLod ∷ ImageSampleExplicitLod ∷ ImageSampleDrefImplicitLod ∷ ImageSampleDrefExplicitLod

@@ -1,6 +1,17 @@
 // The fourteen opcodes, and what the words of each look like.
 ghost use mathlib.Core.Path.{_≡_};
-ghost use Rattle.words.specs.Opcodes.{rowOf, numbered, place};
+ghost use Rattle.words.specs.Opcodes.{opcodeRow, rowOf, numbered, place};
+use self::Layout::Component;
+use self::Layout::Couple;
+use self::Layout::Plain;
+use self::Layout::Reference;
+use self::Layout::Write;
+use self::OperandRule::Explicit;
+use self::OperandRule::Gather;
+use self::OperandRule::Implicit;
+use self::OperandRule::Load;
+use self::OperandRule::Never;
+use self::OperandRule::Store;
 
 // By SPIR-V's names, without their "Op".
 #[derive(Clone, Copy)]
@@ -60,8 +71,8 @@ pub struct OpcodeRow {
     pub rule: OperandRule,
 }
 
-const fn opcode_row(number: u32, least: usize, layout: Layout, rule: OperandRule) -> OpcodeRow
-    ensures { λ r. ⌜ r ≡ record { number = number; least = least; layout = layout; rule = rule } ⌝ }
+const fn row(number: u32, least: usize, layout: Layout, rule: OperandRule) -> OpcodeRow
+    ensures { λ r. ⌜ r ≡ opcodeRow number least layout rule ⌝ }
 {
     OpcodeRow {
         number,
@@ -76,60 +87,20 @@ impl Opcode {
         ensures { λ r. ⌜ r ≡ rowOf self ⌝ }
     {
         match self {
-            Opcode::SampledImage => opcode_row(86, 5, Layout::Couple, OperandRule::Never),
-            Opcode::ImageSampleImplicitLod => opcode_row(
-                87,
-                5,
-                Layout::Plain,
-                OperandRule::Implicit,
-            ),
-            Opcode::ImageSampleExplicitLod => opcode_row(
-                88,
-                7,
-                Layout::Plain,
-                OperandRule::Explicit,
-            ),
-            Opcode::ImageSampleDrefImplicitLod => opcode_row(
-                89,
-                6,
-                Layout::Reference,
-                OperandRule::Implicit,
-            ),
-            Opcode::ImageSampleDrefExplicitLod => opcode_row(
-                90,
-                8,
-                Layout::Reference,
-                OperandRule::Explicit,
-            ),
-            Opcode::ImageSampleProjImplicitLod => opcode_row(
-                91,
-                5,
-                Layout::Plain,
-                OperandRule::Implicit,
-            ),
-            Opcode::ImageSampleProjExplicitLod => opcode_row(
-                92,
-                7,
-                Layout::Plain,
-                OperandRule::Explicit,
-            ),
-            Opcode::ImageSampleProjDrefImplicitLod => opcode_row(
-                93,
-                6,
-                Layout::Reference,
-                OperandRule::Implicit,
-            ),
-            Opcode::ImageSampleProjDrefExplicitLod => opcode_row(
-                94,
-                8,
-                Layout::Reference,
-                OperandRule::Explicit,
-            ),
-            Opcode::ImageFetch => opcode_row(95, 5, Layout::Plain, OperandRule::Load),
-            Opcode::ImageGather => opcode_row(96, 6, Layout::Component, OperandRule::Gather),
-            Opcode::ImageDrefGather => opcode_row(97, 6, Layout::Reference, OperandRule::Gather),
-            Opcode::ImageRead => opcode_row(98, 5, Layout::Plain, OperandRule::Load),
-            Opcode::ImageWrite => opcode_row(99, 4, Layout::Write, OperandRule::Store),
+            Opcode::SampledImage => row(86, 5, Couple, Never),
+            Opcode::ImageSampleImplicitLod => row(87, 5, Plain, Implicit),
+            Opcode::ImageSampleExplicitLod => row(88, 7, Plain, Explicit),
+            Opcode::ImageSampleDrefImplicitLod => row(89, 6, Reference, Implicit),
+            Opcode::ImageSampleDrefExplicitLod => row(90, 8, Reference, Explicit),
+            Opcode::ImageSampleProjImplicitLod => row(91, 5, Plain, Implicit),
+            Opcode::ImageSampleProjExplicitLod => row(92, 7, Plain, Explicit),
+            Opcode::ImageSampleProjDrefImplicitLod => row(93, 6, Reference, Implicit),
+            Opcode::ImageSampleProjDrefExplicitLod => row(94, 8, Reference, Explicit),
+            Opcode::ImageFetch => row(95, 5, Plain, Load),
+            Opcode::ImageGather => row(96, 6, Component, Gather),
+            Opcode::ImageDrefGather => row(97, 6, Reference, Gather),
+            Opcode::ImageRead => row(98, 5, Plain, Load),
+            Opcode::ImageWrite => row(99, 4, Write, Store),
         }
     }
 
