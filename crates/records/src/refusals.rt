@@ -45,7 +45,7 @@ pub struct Fault {
     pub place: usize,
 }
 
-const fn fault(number: u8, layer: Layer, place: usize) -> Fault
+const fn at(number: u8, layer: Layer, place: usize) -> Fault
     ensures { λ r. ⌜ r ≡ faultAt number layer place ⌝ }
 {
     Fault {
@@ -60,22 +60,22 @@ impl Error {
         ensures { λ r. ⌜ r ≡ faultOf self ⌝ }
     {
         match self {
-            Error::IncompleteData(given) => fault(1, Words, given),
-            Error::InvalidOperandCount => fault(2, Words, 0),
-            Error::UnsupportedInstruction => fault(3, Words, 0),
-            Error::UnsupportedOperand(mask) => fault(4, Words, mask),
-            Error::InvalidId(id) => fault(5, Ids, id),
-            Error::InvalidResultId(id) => fault(6, Ids, id),
-            Error::InvalidOperand(word) => fault(7, Rules, word),
-            Error::InvalidImageExpression(image) => fault(8, Rules, image),
-            Error::InvalidGlobalVar(image) => fault(9, Rules, image),
-            Error::InvalidImage(image) => fault(10, Rules, image),
-            Error::InvalidCoordinate(coordinate) => fault(11, Rules, coordinate),
-            Error::InvalidVectorType(value) => fault(12, Rules, value),
-            Error::InvalidType(ty) => fault(13, Rules, ty),
-            Error::MissingType(coordinate) => fault(14, Rules, coordinate),
-            Error::Full => fault(15, Memory, 0),
-            Error::Mismatch => fault(16, Memory, 0),
+            Error::IncompleteData(given) => at(1, Words, given),
+            Error::InvalidOperandCount => at(2, Words, 0),
+            Error::UnsupportedInstruction => at(3, Words, 0),
+            Error::UnsupportedOperand(mask) => at(4, Words, mask),
+            Error::InvalidId(id) => at(5, Ids, id),
+            Error::InvalidResultId(id) => at(6, Ids, id),
+            Error::InvalidOperand(word) => at(7, Rules, word),
+            Error::InvalidImageExpression(image) => at(8, Rules, image),
+            Error::InvalidGlobalVar(image) => at(9, Rules, image),
+            Error::InvalidImage(image) => at(10, Rules, image),
+            Error::InvalidCoordinate(coordinate) => at(11, Rules, coordinate),
+            Error::InvalidVectorType(value) => at(12, Rules, value),
+            Error::InvalidType(ty) => at(13, Rules, ty),
+            Error::MissingType(coordinate) => at(14, Rules, coordinate),
+            Error::Full => at(15, Memory, 0),
+            Error::Mismatch => at(16, Memory, 0),
         }
     }
 }
