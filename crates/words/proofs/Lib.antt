@@ -3,3 +3,5 @@ pub mod Counts
 pub mod Waits
 pub mod Rests
 pub mod Stages
+pub mod Spells
+pub mod Lawful

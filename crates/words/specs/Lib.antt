@@ -3,3 +3,4 @@ pub mod Masks
 pub mod Operands
 pub mod Instructions
 pub mod Examples
+pub mod Laws

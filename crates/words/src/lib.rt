@@ -1,17 +1,20 @@
 // The words of one image instruction: what they say, or which word is wrong.
-mod examples;
 mod instructions;
+mod laws;
 mod masks;
 mod opcodes;
 mod operands;
 
-pub use examples::examples_stand;
 pub use instructions::Ids;
 pub use instructions::Instruction;
 pub use instructions::parse_instruction;
+pub use laws::examples_stand;
+pub use laws::laws_stand;
 pub use masks::MaskBit;
 pub use masks::UsedBy;
 pub use masks::mask_bit;
+pub use masks::mask_words;
+pub use masks::words_at;
 pub use opcodes::Layout;
 pub use opcodes::Opcode;
 pub use opcodes::OpcodeRow;

@@ -1,6 +1,6 @@
 use mathlib.Core.Path.{refl}
 use Rattle.words.specs.Masks.{has, over}
-use Rattle.words.proofs.examples.examples_stand.Needs as need
+use Rattle.words.proofs.laws.examples_stand.Needs as need
 
 pub returns : need.returns
 unfolding has over
