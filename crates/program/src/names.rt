@@ -29,7 +29,8 @@ pub fn error_reason(error: Error) -> &'static str {
     match error {
         Error::IncompleteData(_) => "there are no words, or fewer than the count says",
         Error::InvalidOperandCount => "the count, or the number of words after the mask, is wrong",
-        Error::UnsupportedInstruction => "the opcode is none of 86 to 99",
+        Error::UnsupportedInstruction =>
+            "the low 16 bits are no opcode from 56 to 63 (86 to 99 in decimal)",
         Error::UnsupportedOperand(_) => "a bit of the mask is neither honoured nor stepped over",
         Error::InvalidId(_) => "the id is not in its book",
         Error::InvalidResultId(_) => "the new id is 0, too large or taken",

@@ -35,6 +35,7 @@ fn one_more(number: u32, byte: u8) -> Result<u32, BadWord>
     Ok(number * 16 + digit)
 }
 
+// A word, or what shows first: a character that is no digit, or a digit that is too many.
 pub fn hex_word(text: &[u8]) -> Result<u32, BadWord>
     ensures { λ r. ⌜ r ≡ hexWord (now (text .entry)) ⌝ }
 {

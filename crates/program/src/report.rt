@@ -1,4 +1,4 @@
-// What is printed of an instruction: a line for each word, with its place, its part and its id.
+// What is printed of an instruction: a line for each part and operand, with its place and its id; and of a refusal.
 use crate::names::error_name;
 use crate::names::error_reason;
 use crate::names::layer_name;

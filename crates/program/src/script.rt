@@ -13,7 +13,7 @@ use words::parse_instruction;
 // The words after `read`, or the message about the first that is none.
 fn read_words(rt: &LibcRuntime, number: u64, text: &str) -> Result<Option<Vec<u32>>, AnyError> {
     let mut words = Vec::new(rt.alloc());
-    for token in text.split_whitespace().skip(1) {
+    for token in text.split_ascii_whitespace().skip(1) {
         match hex_word(token.as_bytes()) {
             Ok(word) => words.push(word)?,
             Err(BadWord::NotHexadecimal) => {
@@ -29,6 +29,18 @@ fn read_words(rt: &LibcRuntime, number: u64, text: &str) -> Result<Option<Vec<u3
     Ok(Some(words))
 }
 
+// Says how many words were not read.
+fn past_the_count(rt: &LibcRuntime, words: &[u32]) -> Result<(), AnyError> {
+    if let [first, ..] = words {
+        let count = (*first >> 16) as usize;
+        if words.len() > count {
+            let past = words.len() - count;
+            println!(rt, "       words past the count, not read: {past}")?;
+        }
+    }
+    Ok(())
+}
+
 fn read(rt: &LibcRuntime, number: u64, text: &str, tally: &mut Tally) -> Result<(), AnyError> {
     let Some(words) = read_words(rt, number, text)? else {
         tally.bad_lines = tally.bad_lines.saturating_add(1);
@@ -39,6 +51,7 @@ fn read(rt: &LibcRuntime, number: u64, text: &str, tally: &mut Tally) -> Result<
         Ok(instruction) => {
             tally.accepted = tally.accepted.saturating_add(1);
             rt.println(Accepted(instruction))?;
+            past_the_count(rt, words.as_slice())?;
         }
         Err(error) => {
             tally.refused = tally.refused.saturating_add(1);
@@ -52,7 +65,7 @@ fn read(rt: &LibcRuntime, number: u64, text: &str, tally: &mut Tally) -> Result<
 }
 
 fn call(rt: &LibcRuntime, number: u64, text: &str, tally: &mut Tally) -> Result<(), AnyError> {
-    match text.split_whitespace().next() {
+    match text.split_ascii_whitespace().next() {
         None => {}
         Some("read") => read(rt, number, text, tally)?,
         Some("case") => println!(rt, "{text}")?,
@@ -81,6 +94,16 @@ fn call(rt: &LibcRuntime, number: u64, text: &str, tally: &mut Tally) -> Result<
     Ok(())
 }
 
+// Whether a line has only printable ASCII characters and blanks.
+fn is_plain(text: &[u8]) -> bool {
+    for byte in text {
+        if !matches!(*byte, b'\t' | b'\r' | b' '..=b'~') {
+            return false;
+        }
+    }
+    true
+}
+
 // One line as it came in. One without an end may be cut off, so it is not made.
 pub fn make_line(
     rt: &LibcRuntime,
@@ -97,10 +120,13 @@ pub fn make_line(
         return Ok(());
     };
     match from_utf8(text) {
-        Ok(text) => call(rt, number, text.trim_ascii(), tally),
-        Err(_) => {
+        Ok(plain) if is_plain(text) => call(rt, number, plain.trim_ascii(), tally),
+        _ => {
             tally.bad_lines = tally.bad_lines.saturating_add(1);
-            println!(rt, "line {number}: the line is not UTF-8 text")?;
+            println!(
+                rt,
+                "line {number}: only printable ASCII characters and blanks can stand in a line"
+            )?;
             Ok(())
         }
     }

@@ -2,6 +2,5 @@ pub mod Walks
 pub mod Counts
 pub mod Waits
 pub mod Rests
-pub mod Stages
 pub mod Spells
 pub mod Lawful

@@ -50,14 +50,14 @@ abbrev pub ofResult : ℕ → ℕ → ℕ → Ids
 ofResult t r i = ids (record { id = t; place = 1 }) (record { id = r; place = 2 }) (record { id = i; place = 3 }) noId noId noId noId noId
 
 -- the first word has the count in its high 16 bits and the opcode in its low 16
-abbrev pub countOf : List ℕ → ℕ
-countOf ws = getD ws 0 0 / 65536
+abbrev pub countIn : ℕ → ℕ
+countIn first = first / 65536
 
-abbrev pub opcodeOf : List ℕ → Option Opcode
-opcodeOf ws = numbered (getD ws 0 0 % 65536)
+abbrev pub opcodeIn : ℕ → Option Opcode
+opcodeIn first = numbered (first % 65536)
 
 abbrev pub tooFewWords : List ℕ → Bool
-tooFewWords ws = eqb (length ws) 0 || ltb (length ws) (countOf ws)
+tooFewWords ws = eqb (length ws) 0 || ltb (length ws) (countIn (getD ws 0 0))
 
 -- a couple has exactly its words, the others at least theirs
 abbrev pub wrongCount : OpcodeRow → ℕ → Bool
@@ -75,26 +75,32 @@ abbrev pub andThen : {X Y : Type 0} → Result X Error → (X → Result Y Error
 andThen (Ok x) f = f x
 andThen (Err e) f = Err e
 
--- The words from the mask on, the checks in their order. Where there are none the mask is 0.
+-- The checks of a mask and the words after it, in their order.
+abbrev pub maskChecks : Opcode → ℕ → List ℕ → Result (Unit {0}) Error
+maskChecks op mask operands =
+    andThen (check (not (supports (rowOf op .rule) mask)) (UnsupportedOperand (place op))) (λ _.
+    andThen (check (not (eqb (length operands) (wordsNeeded mask))) InvalidOperandCount) (λ _.
+    check (not (allows (rowOf op .rule) mask)) (InvalidOperand (place op))))
+
+-- What the words from the mask on say. Where there are none the mask is 0.
 abbrev pub imageOperands : Opcode → List ℕ → Result ImageOperands Error
 imageOperands op rest =
-    refuse (not (supports (rowOf op .rule) (getD rest 0 0))) (UnsupportedOperand (place op)) (
-    refuse (not (eqb (length (drop 1 rest)) (wordsNeeded (getD rest 0 0)))) InvalidOperandCount (
-    refuse (not (allows (rowOf op .rule) (getD rest 0 0))) (InvalidOperand (place op)) (
-    Ok (operandsOf (getD rest 0 0) (drop 1 rest) (place op + 1)))))
-
--- Of the words given, only those that the count says are read.
-abbrev pub counted : List ℕ → List ℕ
-counted ws = take (countOf ws) ws
+    andThen (maskChecks op (getD rest 0 0) (drop 1 rest)) (λ _.
+    Ok (operandsOf (getD rest 0 0) (drop 1 rest) (place op + 1)))
 
 abbrev pub described : Opcode → List ℕ → ImageOperands → Instruction
 described op ws operands = record { opcode = op; ids = idsOf (rowOf op .layout) ws; operands = operands }
 
--- The answer on any words: the checks in their order, then what the words say.
+-- the first word, if there are as many words as its count says
+abbrev pub firstWord : List ℕ → Result ℕ Error
+firstWord ws = refuse (tooFewWords ws) (IncompleteData (length ws)) (Ok (getD ws 0 0))
+
+-- The answer on any words: the checks in their order, then what the words say. Of the words given, only those that
+-- the count says are read.
 abbrev pub instruction : List ℕ → Result Instruction Error
 instruction ws =
-    refuse (tooFewWords ws) (IncompleteData (length ws)) (
-    andThen (okOr (opcodeOf ws) UnsupportedInstruction) (λ op.
-    refuse (wrongCount (rowOf op) (countOf ws)) InvalidOperandCount (
-    andThen (imageOperands op (drop (place op) (counted ws))) (λ operands.
-    Ok (described op (counted ws) operands)))))
+    andThen (firstWord ws) (λ first.
+    andThen (okOr (opcodeIn first) UnsupportedInstruction) (λ op.
+    andThen (check (wrongCount (rowOf op) (countIn first)) InvalidOperandCount) (λ _.
+    andThen (imageOperands op (drop (place op) (take (countIn first) ws))) (λ operands.
+    Ok (described op (take (countIn first) ws) operands)))))

@@ -79,12 +79,20 @@ isLoad Gather = false
 isLoad Load = true
 isLoad Store = false
 
--- whether an instruction honours an operand, or steps over it as every instruction does
+abbrev pub isMasked : OperandRule → Bool
+isMasked Never = false
+isMasked Implicit = true
+isMasked Explicit = true
+isMasked Gather = true
+isMasked Load = true
+isMasked Store = true
+
+-- whether an instruction honours an operand, or steps over it as every instruction with a mask does
 abbrev pub honours : OperandRule → UsedBy → Bool
 honours rule Samples = isSample rule
 honours rule Loads = isLoad rule
 honours rule SamplesAndLoads = isSample rule || isLoad rule
-honours rule Nobody = true
+honours rule Nobody = isMasked rule
 
 abbrev pub permitsIn : OperandRule → Option MaskBit → Bool
 permitsIn rule None = false

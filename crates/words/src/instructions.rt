@@ -9,7 +9,7 @@ ghost use Rattle.std.specs.declared.result.Result.the-variants.{Ok};
 ghost use Rattle.records.specs.declared.refusals.Error.the-variants.{IncompleteData, InvalidOperandCount, UnsupportedInstruction, UnsupportedOperand, InvalidOperand};
 ghost use Rattle.words.specs.Masks.{supports, allows, wordsNeeded};
 ghost use Rattle.words.specs.Opcodes.{maskPlace, numbered, place, rowOf};
-ghost use Rattle.words.specs.Instructions.{refuse, check, tooFewWords, wrongCount, ofResult, idsOf, imageOperands, instruction};
+ghost use Rattle.words.specs.Instructions.{check, firstWord, wrongCount, ofResult, idsOf, maskChecks, imageOperands, instruction};
 use crate::masks::mask_words;
 use crate::opcodes::Layout;
 use crate::opcodes::Opcode;
@@ -41,7 +41,7 @@ pub struct Instruction {
 
 // The first word, if there are as many words as its count says.
 fn first_word(words: &[u32]) -> Result<u32, Error>
-    ensures { λ r. ⌜ r ≡ refuse (tooFewWords (now (words .entry))) (IncompleteData (length (now (words .entry)))) (Ok (getD (now (words .entry)) 0 0)) ⌝ }
+    ensures { λ r. ⌜ r ≡ firstWord (now (words .entry)) ⌝ }
 {
     let [first, ..] = words else {
         return Err(Error::IncompleteData(0));
@@ -142,7 +142,7 @@ impl Ids {
 }
 
 // The fixed ids, and the words after them: the mask, if there is one, and its operands.
-fn split_words(layout: Layout, words: &[u32]) -> (Ids, &[u32])
+fn split_by(layout: Layout, words: &[u32]) -> (Ids, &[u32])
     requires { ⌜ maskPlace layout ≤ length (now words) ⌝ }
     ensures ids { λ r. ⌜ r .0 ≡ idsOf layout (now (words .entry)) ⌝ }
     ensures rest { λ r. ⌜ now (r .1) ≡ drop (maskPlace layout) (now (words .entry)) ⌝ }
@@ -258,6 +258,16 @@ fn split_words(layout: Layout, words: &[u32]) -> (Ids, &[u32])
     }
 }
 
+impl Opcode {
+    fn split_words(self, words: &[u32]) -> (Ids, &[u32])
+        requires { ⌜ place self ≤ length (now words) ⌝ }
+        ensures ids { λ r. ⌜ r .0 ≡ idsOf (rowOf self .layout) (now (words .entry)) ⌝ }
+        ensures rest { λ r. ⌜ now (r .1) ≡ drop (place self) (now (words .entry)) ⌝ }
+    {
+        split_by(self.row().layout, words)
+    }
+}
+
 // The mask, and the words of its operands. Where there is no mask it is 0.
 fn split_mask(rest: &[u32]) -> (u32, &[u32])
     ensures mask { λ r. ⌜ r .0 ≡ getD (now (rest .entry)) 0 0 ⌝ }
@@ -269,14 +279,20 @@ fn split_mask(rest: &[u32]) -> (u32, &[u32])
     }
 }
 
+fn check_mask(opcode: Opcode, mask: u32, operands: &[u32]) -> Result<(), Error>
+    ensures { λ r. ⌜ r ≡ maskChecks opcode mask (now (operands .entry)) ⌝ }
+{
+    opcode.expect_supported(mask)?;
+    expect_words(mask, operands)?;
+    opcode.expect_allowed(mask)
+}
+
 // What the words from the mask on say.
 fn parse_image_operands(opcode: Opcode, rest: &[u32]) -> Result<ImageOperands, Error>
     ensures { λ r. ⌜ r ≡ imageOperands opcode (now (rest .entry)) ⌝ }
 {
     let (mask, operands) = split_mask(rest);
-    opcode.expect_supported(mask)?;
-    expect_words(mask, operands)?;
-    opcode.expect_allowed(mask)?;
+    check_mask(opcode, mask, operands)?;
     Ok(take_operands(mask, operands, opcode.mask_place() + 1))
 }
 
@@ -288,7 +304,7 @@ pub fn parse_instruction(words: &[u32]) -> Result<Instruction, Error>
     let opcode = Opcode::expect_listed(first % 0x1_0000)?;
     let count = (first / 0x1_0000) as usize;
     opcode.expect_count(count)?;
-    let (ids, rest) = split_words(opcode.row().layout, &words[0..count]);
+    let (ids, rest) = opcode.split_words(&words[0..count]);
     let operands = parse_image_operands(opcode, rest)?;
     Ok(Instruction {
         opcode,

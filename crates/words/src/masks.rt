@@ -101,10 +101,11 @@ impl OperandRule {
             return false;
         };
         match (self, row.used_by) {
+            (OperandRule::Never, _) => false,
             (_, UsedBy::Nobody) => true,
             (OperandRule::Load, UsedBy::Samples) => false,
             (OperandRule::Load, _) => true,
-            (OperandRule::Never | OperandRule::Store, _) => false,
+            (OperandRule::Store, _) => false,
             (_, UsedBy::Loads) => false,
             _ => true,
         }

@@ -4,4 +4,4 @@ use Rattle.words.proofs.laws.examples_stand.Needs as need
 
 pub returns : need.returns
 unfolding has over
-returns c = (refl, refl)
+returns c = record { examples = (refl, refl, refl); value = refl }

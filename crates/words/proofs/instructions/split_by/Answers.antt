@@ -1,6 +1,6 @@
 use borrow.Author.Needs.{needs}
 use Rattle.std.proofs.shelf.Lists.{take-rest}
-use Rattle.words.proofs.instructions.split_words.Needs as need
+use Rattle.words.proofs.instructions.split_by.Needs as need
 
 pub returns-in-Couple-len5-up : need.returns-in-Couple-len5-up
 returns-in-Couple-len5-up c = let e = take-rest (c .args .words .now) 5 in search needs
