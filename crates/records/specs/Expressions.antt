@@ -51,9 +51,9 @@ noImage = record {
   lod = None;
 }
 
--- a record that names a variable, argument, constant or type, and no expression
-abbrev pub leaf : ExpressionTag → GlobalVariableHandle → FunctionArgumentHandle → ConstantHandle → TypeHandle → Expression
-leaf tag v a c t = record {
+-- a record that names a variable, argument, constant, type or input, and no expression
+abbrev pub leaf : ExpressionTag → GlobalVariableHandle → FunctionArgumentHandle → ConstantHandle → TypeHandle → ℕ → Expression
+leaf tag v a c t i = record {
   tag = tag;
   result = None;
   variable = v;
@@ -62,7 +62,7 @@ leaf tag v a c t = record {
   ty = t;
   base = noExpression;
   other = noExpression;
-  index = 0;
+  index = i;
   size = Bi;
   components = noComponents;
   pattern = noPattern;
@@ -106,16 +106,17 @@ asking tag b o i = record {
 }
 
 abbrev pub globalVariable : GlobalVariableHandle → Expression
-globalVariable v = leaf GlobalVariable v noArgument noConstant noType
+globalVariable v = leaf GlobalVariable v noArgument noConstant noType 0
 
 abbrev pub functionArgument : FunctionArgumentHandle → Expression
-functionArgument a = leaf FunctionArgument noVariable a noConstant noType
+functionArgument a = leaf FunctionArgument noVariable a noConstant noType 0
 
 abbrev pub constantOf : ConstantHandle → Expression
-constantOf c = leaf Constant noVariable noArgument c noType
+constantOf c = leaf Constant noVariable noArgument c noType 0
 
-abbrev pub supplied : TypeHandle → Expression
-supplied t = leaf Supplied noVariable noArgument noConstant t
+-- a brought value: its type and the number of its input
+abbrev pub supplied : TypeHandle → ℕ → Expression
+supplied t i = leaf Supplied noVariable noArgument noConstant t i
 
 abbrev pub access : ExpressionHandle → ExpressionHandle → Expression
 access base index = node Access base index 0 Bi noPattern

@@ -80,7 +80,7 @@ pub struct Expression {
     pub base: ExpressionHandle,
     // the index of Access, the right of Divide, the sampler of ImageSample
     pub other: ExpressionHandle,
-    // the component of AccessIndex
+    // the component of AccessIndex, the number of the input of a brought value
     pub index: u32,
     // the size of Splat, Swizzle and Compose
     pub size: VectorSize,
@@ -151,12 +151,14 @@ impl Expression {
         }
     }
 
-    pub fn supplied(ty: TypeHandle) -> Expression
-        ensures { λ r. ⌜ r ≡ supplied ty ⌝ }
+    // The value of an input by its number, counted from 0 over all values brought.
+    pub fn supplied(ty: TypeHandle, input: u32) -> Expression
+        ensures { λ r. ⌜ r ≡ supplied ty input ⌝ }
     {
         Expression {
             tag: ExpressionTag::Supplied,
             ty,
+            index: input,
             ..Expression::BLANK
         }
     }
