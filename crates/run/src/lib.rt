@@ -1,0 +1,13 @@
+// The run: works out every expression of the lists, asks a texture unit, and lists the stores.
+mod fits;
+mod inside;
+mod lists;
+mod requests;
+mod rules;
+mod sights;
+mod statics;
+mod types;
+mod worth;
+
+pub use lists::Lists;
+pub use rules::Sight;
