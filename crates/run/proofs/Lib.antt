@@ -1,3 +1,4 @@
 pub mod Sames
 pub mod Fuel
 pub mod Places
+pub mod Steps

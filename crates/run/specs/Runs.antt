@@ -1,7 +1,16 @@
 -- The run over a list of expressions.
-use Prim.Native.Nat.{ℕ}
-use mathlib.Core.List.{List}
+use Prim.Native.Nat.{ℕ, suc}
+use mathlib.Core.List.{List, [], _∷_, _++_}
 use lib.ListN.{getD}
+use Rattle.std.specs.declared.option.Option.{Option}
+use Rattle.std.specs.declared.option.Option.the-variants.{Some, None}
+use Rattle.records.specs.declared.expressions.Expression.{Expression}
+use Rattle.run.specs.declared.rules.Sight.{Sight}
+use Rattle.run.specs.declared.rules.Sight.the-variants as sights
+use Rattle.run.specs.declared.passes.Halt.{Halt}
+use Rattle.run.specs.declared.passes.Halt.the-variants.{Stuck, Outside}
+use Rattle.run.specs.Envs.{Env}
+use Rattle.run.specs.Rules.{Known, seen}
 use Rattle.units.specs.declared.values.Value.{Value}
 use Rattle.units.specs.declared.values.Components.{Components}
 use Rattle.run.specs.Worth.{Values, noValue, noComponents}
@@ -12,3 +21,19 @@ valueAt vs h = getD vs h noValue
 -- an input by its number; one that is not there is not asked for
 abbrev pub inputAt : List Components → ℕ → Components
 inputAt ins k = getD ins k noComponents
+
+-- an expression that is fine lets the run go on
+abbrev pub halts : Sight → ℕ → Option Halt → Option Halt
+halts (sights.Fine t) i rest = rest
+halts sights.Lacking i rest = Some (Stuck i)
+halts sights.Outside i rest = Some Outside
+
+-- where a run over expressions i, i + 1 and so on halts, if it does; `tys i` is what is known before expression i
+unfoldable pub halting : Env → (ℕ → Known) → ℕ → List Expression → Option Halt
+halting env tys i [] = None
+halting env tys i (e ∷ es) = halts (seen env (tys i) e) i (halting env tys (suc i) es)
+
+-- the values of some expressions and then of those after them; `w` gives one from those before it
+unfoldable pub worked : (Values → Expression → Value) → List Value → List Expression → List Value
+worked w vs [] = vs
+worked w vs (e ∷ es) = worked w (vs ++ w (valueAt vs) e ∷ []) es

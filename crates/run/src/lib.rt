@@ -2,6 +2,7 @@
 mod fits;
 mod inside;
 mod lists;
+mod passes;
 mod requests;
 mod rules;
 mod sights;
@@ -10,4 +11,5 @@ mod types;
 mod worth;
 
 pub use lists::Lists;
+pub use passes::Halt;
 pub use rules::Sight;
