@@ -9,43 +9,32 @@ use Rattle.std.proofs.shelf.Lists.{take-more-set, drop-drop, drop-set-lt, lengt
 use Rattle.std.specs.declared.option.Option.{Option}
 use Rattle.std.specs.declared.option.Option.the-variants.{Some, None}
 use Rattle.records.specs.declared.expressions.Expression.{Expression}
-use Rattle.records.specs.declared.types.TypeInner.{TypeInner}
 use Rattle.units.specs.declared.values.Value.{Value}
-use Rattle.run.specs.declared.rules.Sight.the-variants as sights
 use Rattle.run.specs.declared.passes.Halt.{Halt}
-use Rattle.run.specs.declared.passes.Halt.the-variants.{Stuck, Outside}
-use Rattle.run.specs.Envs.{Env}
-use Rattle.run.specs.Rules.{Known, seen}
 use Rattle.run.specs.Worth.{Values}
-use Rattle.run.specs.Runs.{halts, halting, worked, valueAt}
+use Rattle.run.specs.Runs.{orElse, firstHalt, worked, valueAt}
 
 more : (i : ℕ) → suc i ≡ i + 1
 more i = omega arith
 
--- the expression at i, and those after it
-halting-at : (env : Env) (tys : ℕ → Known) (es : List Expression) (i : ℕ) (d : Expression) → i < length es
-    → halting env tys i (drop i es) ≡ halts (seen env (tys i) (getD es i d)) i (halting env tys (i + 1) (drop (i + 1) es))
-unfolding halting
-halting-at env tys es i d l =
-    ap (halting env tys i) (drop-cons es i d l)
-    ∙ ap (λ k. halts (seen env (tys i) (getD es i d)) i (halting env tys k (drop k es))) (more i)
+-- the record at i, and those after it
+first-at : {X : Type 0} (f : ℕ → X → Option Halt) (xs : List X) (i : ℕ) (d : X) → i < length xs
+    → firstHalt f i (drop i xs) ≡ orElse (f i (getD xs i d)) (firstHalt f (i + 1) (drop (i + 1) xs))
+unfolding firstHalt
+first-at f xs i d l = ap (firstHalt f i) (drop-cons xs i d l) ∙ ap (λ k. orElse (f i (getD xs i d)) (firstHalt f k (drop k xs))) (more i)
 
-pub halting-on : (env : Env) (tys : ℕ → Known) (es : List Expression) (i : ℕ) (d : Expression) (t : TypeInner) (end : Option Halt) → i < length es
-    → seen env (tys i) (getD es i d) ≡ sights.Fine t → halting env tys i (drop i es) ≡ end → halting env tys (i + 1) (drop (i + 1) es) ≡ end
-halting-on env tys es i d t end l fine is = sym (halting-at env tys es i d l ∙ ap (λ s. halts s i (halting env tys (i + 1) (drop (i + 1) es))) fine) ∙ is
+pub first-on : {X : Type 0} (f : ℕ → X → Option Halt) (xs : List X) (i : ℕ) (d : X) (end : Option Halt) → i < length xs → f i (getD xs i d) ≡ None
+    → firstHalt f i (drop i xs) ≡ end → firstHalt f (i + 1) (drop (i + 1) xs) ≡ end
+first-on f xs i d end l none is = sym (first-at f xs i d l ∙ ap (λ o. orElse o (firstHalt f (i + 1) (drop (i + 1) xs))) none) ∙ is
 
-pub halting-stuck : (env : Env) (tys : ℕ → Known) (es : List Expression) (i : ℕ) (d : Expression) (end : Option Halt) → i < length es
-    → seen env (tys i) (getD es i d) ≡ sights.Lacking → halting env tys i (drop i es) ≡ end → Some (Stuck i) ≡ end
-halting-stuck env tys es i d end l lacks is = sym (halting-at env tys es i d l ∙ ap (λ s. halts s i (halting env tys (i + 1) (drop (i + 1) es))) lacks) ∙ is
+pub first-here : {X : Type 0} (f : ℕ → X → Option Halt) (xs : List X) (i : ℕ) (d : X) (h : Halt) (end : Option Halt) → i < length xs
+    → f i (getD xs i d) ≡ Some h → firstHalt f i (drop i xs) ≡ end → Some h ≡ end
+first-here f xs i d h end l some is = sym (first-at f xs i d l ∙ ap (λ o. orElse o (firstHalt f (i + 1) (drop (i + 1) xs))) some) ∙ is
 
-pub halting-outside : (env : Env) (tys : ℕ → Known) (es : List Expression) (i : ℕ) (d : Expression) (end : Option Halt) → i < length es
-    → seen env (tys i) (getD es i d) ≡ sights.Outside → halting env tys i (drop i es) ≡ end → Some Outside ≡ end
-halting-outside env tys es i d end l out is = sym (halting-at env tys es i d l ∙ ap (λ s. halts s i (halting env tys (i + 1) (drop (i + 1) es))) out) ∙ is
-
-pub halting-none : (env : Env) (tys : ℕ → Known) (es : List Expression) (i : ℕ) (end : Option Halt) → length es ≤ i
-    → halting env tys i (drop i es) ≡ end → None ≡ end
-unfolding halting
-halting-none env tys es i end l is = sym (ap (halting env tys i) (drop-of-length-le es l)) ∙ is
+pub first-none : {X : Type 0} (f : ℕ → X → Option Halt) (xs : List X) (i : ℕ) (end : Option Halt) → length xs ≤ i
+    → firstHalt f i (drop i xs) ≡ end → None ≡ end
+unfolding firstHalt
+first-none f xs i end l is = sym (ap (firstHalt f i) (drop-of-length-le xs l)) ∙ is
 
 -- Where the values of the first i stand in front of a list, and the rest of it is as it was.
 pub record Working (w : Values → Expression → Value) (es : List Expression) (old vs : List Value) (i : ℕ) : Type 0 where

@@ -4,3 +4,4 @@ pub mod Rules
 pub mod Statics
 pub mod Worth
 pub mod Runs
+pub mod Stores

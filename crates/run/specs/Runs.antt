@@ -25,16 +25,24 @@ valueAt vs h = getD vs h noValue
 abbrev pub inputAt : List Components → ℕ → Components
 inputAt ins k = getD ins k noComponents
 
+abbrev pub orElse : Option Halt → Option Halt → Option Halt
+orElse None rest = rest
+orElse (Some h) rest = Some h
+
+-- the first halt, where `f` says whether a record halts a run; they have the numbers i, i + 1 and so on
+unfoldable pub firstHalt : {X : Type 0} → (ℕ → X → Option Halt) → ℕ → List X → Option Halt
+firstHalt f i [] = None
+firstHalt f i (x ∷ xs) = orElse (f i x) (firstHalt f (suc i) xs)
+
 -- an expression that is fine lets the run go on
-abbrev pub halts : Sight → ℕ → Option Halt → Option Halt
-halts (sights.Fine t) i rest = rest
-halts sights.Lacking i rest = Some (Stuck i)
-halts sights.Outside i rest = Some Outside
+abbrev pub haltOf : Sight → ℕ → Option Halt
+haltOf (sights.Fine t) i = None
+haltOf sights.Lacking i = Some (Stuck i)
+haltOf sights.Outside i = Some Outside
 
 -- where a run over expressions i, i + 1 and so on halts, if it does; `tys i` is what is known before expression i
-unfoldable pub halting : Env → (ℕ → Known) → ℕ → List Expression → Option Halt
-halting env tys i [] = None
-halting env tys i (e ∷ es) = halts (seen env (tys i) e) i (halting env tys (suc i) es)
+abbrev pub halting : Env → (ℕ → Known) → ℕ → List Expression → Option Halt
+halting env tys = firstHalt (λ i e. haltOf (seen env (tys i) e) i)
 
 -- the values of some expressions and then of those after them; `w` gives one from those before it
 unfoldable pub worked : (Values → Expression → Value) → List Value → List Expression → List Value

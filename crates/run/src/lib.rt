@@ -7,6 +7,7 @@ mod requests;
 mod rules;
 mod sights;
 mod statics;
+mod stores;
 mod types;
 mod worth;
 

@@ -19,6 +19,8 @@ use units::Value;
 pub enum Halt {
     // this expression lacks a value, a component or a type that it needs
     Stuck(usize),
+    // this statement, a store, lacks one
+    StuckAtStore(usize),
     // a number lies outside the used lists
     Outside,
 }

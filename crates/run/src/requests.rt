@@ -81,7 +81,11 @@ pub fn components_at(values: &[Value], i: usize, handle: ExpressionHandle) -> Co
     components_of(value_at(values, i, handle))
 }
 
-fn optional_at(values: &[Value], i: usize, handle: Option<ExpressionHandle>) -> Option<Components>
+pub fn optional_at(
+    values: &[Value],
+    i: usize,
+    handle: Option<ExpressionHandle>,
+) -> Option<Components>
     ensures { λ r. ⌜ r ≡ optional (valueAt (take i (now (values .entry)))) handle ⌝ }
 {
     match handle {
