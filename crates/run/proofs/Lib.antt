@@ -2,3 +2,6 @@ pub mod Sames
 pub mod Fuel
 pub mod Places
 pub mod Steps
+pub mod Storing
+pub mod Seen
+pub mod Sound

@@ -1,5 +1,5 @@
 -- Stores: what each needs, and the request that it lists.
-use Prim.Native.Nat.{ℕ}
+use Prim.Native.Nat.{ℕ, suc}
 use mathlib.Core.Bool.{Bool, false, cond, _&&_}
 use mathlib.Core.List.{List, [], _∷_}
 use Rattle.std.specs.declared.option.Option.{Option}
@@ -71,3 +71,9 @@ unfoldable pub stores : Values → List Statement → List Request
 stores at [] = []
 stores at (Emit r ∷ ss) = stores at ss
 stores at (ImageStore i c l v ∷ ss) = storeRequest at i c l v ∷ stores at ss
+
+-- how many there are
+unfoldable pub storeCount : List Statement → ℕ
+storeCount [] = 0
+storeCount (Emit r ∷ ss) = storeCount ss
+storeCount (ImageStore i c l v ∷ ss) = suc (storeCount ss)

@@ -1,9 +1,12 @@
 // Stores: whether each has what it needs, and the requests that they list.
+ghost use Prim.Native.Nat.{_≤_};
+ghost use mathlib.Core.List.{_++_};
 ghost use mathlib.Core.Path.{_≡_};
+ghost use lib.ListN.{length, take, drop};
 ghost use Rattle.run.specs.Envs.{envOf};
 ghost use Rattle.run.specs.Runs.{valueAt};
 ghost use Rattle.run.specs.Statics.{knownBefore};
-ghost use Rattle.run.specs.Stores.{storeFits, storeHalt, haltingStores, storeRequest};
+ghost use Rattle.run.specs.Stores.{storeFits, storeHalt, haltingStores, storeRequest, stores, storeCount};
 use crate::fits::layer_fits;
 use crate::lists::Lists;
 use crate::passes::Halt;
@@ -98,5 +101,74 @@ impl Lists<'_> {
             }
         }
         None
+    }
+}
+
+fn store_request(
+    values: &[Value],
+    i: usize,
+    image: ExpressionHandle,
+    coordinate: ExpressionHandle,
+    layer: Option<ExpressionHandle>,
+    value: ExpressionHandle,
+) -> Request
+    ensures { λ r. ⌜ r ≡ storeRequest (valueAt (take i (now (values .entry)))) image coordinate layer value ⌝ }
+{
+    let texture = value_at(values, i, image);
+    let ty = texture_type_of(texture);
+    Request {
+        texture: resource_of(texture),
+        sampler: None,
+        sort: Sort::Store,
+        kind: kind_in(ty),
+        dim: dimension_of(ty),
+        depth: depth_of(ty),
+        coordinate: components_at(values, i, coordinate),
+        layer: optional_at(values, i, layer),
+        gather: None,
+        sample: None,
+        offset: None,
+        level: Level::Unstated,
+        reference: None,
+        value: Some(components_at(values, i, value)),
+    }
+}
+
+pub fn store_count(statements: &[Statement]) -> usize
+    ensures { λ r. ⌜ r ≡ storeCount (now (statements .entry)) ⌝ }
+{
+    let mut n = 0;
+    for j in 0..statements.len() {
+        let Statement::ImageStore { .. } = statements[j] else {
+            continue;
+        };
+        n += 1;
+    }
+    n
+}
+
+// The store requests, in the order of the statements, from the first i values.
+pub(crate) fn fill_stores(
+    statements: &[Statement],
+    values: &[Value],
+    i: usize,
+    requests: &mut [Request],
+)
+    requires { ⌜ storeCount (now statements) ≤ length (now requests) ⌝ }
+    ensures { λ _. ⌜ now (requests .exit) ≡ stores (valueAt (take i (now (values .entry)))) (now (statements .entry)) ++ drop (storeCount (now (statements .entry))) (now (requests .entry)) ⌝ }
+{
+    let mut k = 0;
+    for j in 0..statements.len() {
+        let Statement::ImageStore {
+            image,
+            coordinate,
+            array_index,
+            value,
+        } = statements[j]
+        else {
+            continue;
+        };
+        requests[k] = store_request(values, i, image, coordinate, array_index, value);
+        k += 1;
     }
 }
