@@ -5,3 +5,4 @@ pub mod Steps
 pub mod Storing
 pub mod Seen
 pub mod Sound
+pub mod Agree
