@@ -5,3 +5,5 @@ pub mod Statics
 pub mod Worth
 pub mod Runs
 pub mod Stores
+pub mod Inputs
+pub mod Ends

@@ -23,6 +23,8 @@ pub enum Halt {
     StuckAtStore(usize),
     // a number lies outside the used lists
     Outside,
+    // an input is missing, or is of another type than its Supplied record
+    WrongInput,
 }
 
 impl Lists<'_> {
