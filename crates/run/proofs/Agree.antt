@@ -60,10 +60,10 @@ drop-more (suc n) [] x ys is = ap (drop 1) is
 drop-more (suc n) (y ∷ xs) x ys is = drop-more n xs x ys is
 
 -- the types of the values are what is known from the records
-abbrev Typing : Env → List Expression → List Value → Type 0
+abbrev pub Typing : Env → List Expression → List Value → Type 0
 Typing env es vs = (h : ℕ) → typesOf vs h ≡ knownBefore env es (length vs) h
 
-typing-none : (env : Env) (es : List Expression) → Typing env es []
+pub typing-none : (env : Env) (es : List Expression) → Typing env es []
 typing-none env es h = cond-above h 0 _ _ _ (omega arith) refl
 
 typing-more : (env : Env) (es : List Expression) (vs : List Value) (v : Value) (t : TypeInner) → typeOf v ≡ t → static env es (length vs) ≡ Some t

@@ -6,3 +6,4 @@ pub mod Storing
 pub mod Seen
 pub mod Sound
 pub mod Agree
+pub mod Whole

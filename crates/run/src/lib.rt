@@ -17,3 +17,4 @@ pub use lists::Lists;
 pub use passes::Halt;
 pub use rules::Sight;
 pub use runs::Outcome;
+pub use runs::run;

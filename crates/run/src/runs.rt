@@ -9,8 +9,14 @@ ghost use Rattle.run.specs.Statics.{knownBefore};
 ghost use Rattle.run.specs.Stores.{haltingStores};
 use crate::lists::Lists;
 use crate::passes::Halt;
+use crate::passes::fill_values;
+use crate::stores::fill_stores;
+use crate::stores::store_count;
 use records::Error;
 use units::Components;
+use units::Request;
+use units::TextureUnit;
+use units::Value;
 
 // How a run that is not refused ends.
 #[derive(Clone, Copy)]
@@ -48,4 +54,32 @@ impl Lists<'_> {
         }
         self.first_store_halt()
     }
+}
+
+// Works out every expression in order, asking the unit, then lists the stores. A run that is refused or sticks writes
+// nothing, and cells past what is written stay as they were.
+pub fn run<U: TextureUnit>(
+    lists: Lists<'_>,
+    inputs: &[Components],
+    unit: &U,
+    values: &mut [Value],
+    requests: &mut [Request],
+) -> Result<Outcome, Error>
+    ensures answer { λ r. ⌜ r ≡ afterRun (envOf (lists .entry)) (answers (now (unit .entry))) (now (inputs .entry)) (now (lists .entry .expressions)) (now (lists .entry .statements)) (length (now (values .entry))) (length (now (requests .entry))) .answer ⌝ }
+    ensures written { λ _. ⌜ now (values .exit) ≡ over (afterRun (envOf (lists .entry)) (answers (now (unit .entry))) (now (inputs .entry)) (now (lists .entry .expressions)) (now (lists .entry .statements)) (length (now (values .entry))) (length (now (requests .entry))) .values) (now (values .entry)) ⌝ }
+    ensures listed { λ _. ⌜ now (requests .exit) ≡ over (afterRun (envOf (lists .entry)) (answers (now (unit .entry))) (now (inputs .entry)) (now (lists .entry .expressions)) (now (lists .entry .statements)) (length (now (values .entry))) (length (now (requests .entry))) .requests) (now (requests .entry)) ⌝ }
+{
+    let n = lists.expressions.len();
+    if values.len() < n {
+        return Err(Error::Full);
+    }
+    if requests.len() < store_count(lists.statements) {
+        return Err(Error::Full);
+    }
+    if let Some(halt) = lists.halt(inputs) {
+        return halt.end();
+    }
+    fill_values(lists, unit, inputs, values);
+    fill_stores(lists.statements, values, n, requests);
+    Ok(Outcome::Done)
 }
