@@ -1,4 +1,6 @@
 // Id books: a record for each SPIR-V id, in cells that the caller lends.
+#![tactic(auto)]
+
 ghost use Rattle.std.specs.Prelude.{◌≡◌};
 ghost use Rattle.books.specs.Books.{Book, count, Lawful, Puts};
 

@@ -1,4 +1,6 @@
 // Image instructions: which images and operands are right, and what is to be appended for them.
+#![tactic(auto)]
+
 mod counts;
 mod couples;
 mod find;

@@ -1,4 +1,6 @@
 // What the caller lends: six lists and three id books; and what ids and handles name in them.
+#![tactic(auto)]
+
 mod flags;
 mod found;
 mod lists;

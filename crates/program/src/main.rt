@@ -1,4 +1,6 @@
 // Takes a script on standard input and says of each instruction in it what its words are.
+#![tactic(auto)]
+
 mod names;
 mod numbers;
 mod report;

@@ -1,4 +1,6 @@
 // The reader of image instructions: its two states, and the calls on them.
+#![tactic(auto)]
+
 mod append;
 mod bring;
 mod commit;

@@ -1,5 +1,5 @@
 -- The two lowest bits of a number, and what setting one of them does.
-use Rattle.std.proofs.Common.{◌≡◌, ℕ, zero, suc, ◌%◌, ◌^◌, ◌<◌, Bool, true, false, eqb, sym, refl, ap, ◌∙◌, arith}
+use Rattle.std.proofs.Common.{◌≡◌, ℕ, zero, suc, ◌%◌, ◌<◌, true, eqb, sym, refl, ap, ◌∙◌, arith}
 use lib.Bits.{bit_and, bit_or}
 use Rattle.std.proofs.lemmas.Nat.{and_mod, or_mod, and_le_r}
 use Rattle.records.specs.Flags.{contains, inserted, Sets, FlagsKept}

@@ -1,5 +1,5 @@
 -- Sampling flags: REGULAR is bit 1, COMPARISON bit 2.
-use Rattle.std.specs.Prelude.{◌≡◌, ℕ, ◌^◌, ◌<◌, Bool, true, false, ◌==◌, bit_and, bit_or}
+use Rattle.std.specs.Prelude.{◌≡◌, ℕ, Bool, true, false, ◌==◌, bit_and, bit_or}
 
 abbrev pub contains : ℕ → ℕ → Bool
 contains flags flag = bit_and flags flag == flag

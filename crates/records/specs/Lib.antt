@@ -1,3 +1,4 @@
+pub mod Types
 pub mod Refusals
 pub mod Expressions
 pub mod Flags

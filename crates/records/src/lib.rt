@@ -1,4 +1,6 @@
 // What every layer shares: refusals, handles, types and records.
+#![tactic(auto)]
+
 mod constants;
 mod expressions;
 mod handles;

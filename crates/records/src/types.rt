@@ -1,7 +1,10 @@
 // The types of values, images and samplers. All scalars have 32 bits.
-ghost use Rattle.std.specs.Prelude.{◌≡◌, Decides};
+ghost use Rattle.std.specs.Prelude.{◌≡◌, ◌==◌, Decides};
+ghost use Rattle.std.specs.Cmp.Lexicographic.{pointwise};
 ghost use Rattle.std.specs.Cmp.Rules.{comparing};
+ghost use Rattle.std.specs.Ordering.{on};
 ghost use Rattle.std.proofs.Common.{rules};
+ghost use Rattle.records.specs.Types.{class_numbers, type_numbers};
 
 use crate::handles::TypeHandle;
 
@@ -36,11 +39,14 @@ pub enum ImageClass {
 }
 
 impl PartialEq for ImageClass {
-    ghost equals = { λ x y r. Decides r (x ≡ y) };
+    ghost eq = { on class_numbers (pointwise ◌==◌) };
 
     ghost laws = { Prim.search (comparing, rules) };
 
-    fn eq(&self, other: &ImageClass) -> bool {
+    fn eq(&self, other: &ImageClass) -> bool
+        ensures computed { result ≡ on class_numbers (pointwise ◌==◌) self.now other.now }
+        ensures decides { Decides result (self.now ≡ other.now) }
+    {
         match (*self, *other) {
             (ImageClass::Sampled { kind, multi }, ImageClass::Sampled { kind: k, multi: m }) => kind
                 == k
@@ -73,11 +79,14 @@ pub enum TypeInner {
 
 // Two types are equal exactly if they are the same value.
 impl PartialEq for TypeInner {
-    ghost equals = { λ x y r. Decides r (x ≡ y) };
+    ghost eq = { on type_numbers (pointwise ◌==◌) };
 
     ghost laws = { Prim.search (comparing, rules) };
 
-    fn eq(&self, other: &TypeInner) -> bool {
+    fn eq(&self, other: &TypeInner) -> bool
+        ensures computed { result ≡ on type_numbers (pointwise ◌==◌) self.now other.now }
+        ensures decides { Decides result (self.now ≡ other.now) }
+    {
         match (*self, *other) {
             (TypeInner::Scalar(kind), TypeInner::Scalar(k)) => kind == k,
             (TypeInner::Vector { size, kind }, TypeInner::Vector { size: s, kind: k }) => size == s

@@ -1,4 +1,6 @@
 // The run: works out every expression of the lists, asks a texture unit, and lists the stores.
+#![tactic(auto)]
+
 mod fits;
 mod inputs;
 mod inside;

@@ -1,4 +1,6 @@
 // What expressions come to, what is asked of a texture unit, and the two units.
+#![tactic(auto)]
+
 ghost use Rattle.std.specs.Prelude.{◌≡◌};
 ghost use Rattle.units.specs.Requests.{Answers, Typed};
 

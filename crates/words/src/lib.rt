@@ -1,4 +1,6 @@
 // The words of one image instruction: what they say, or which word is wrong.
+#![tactic(auto)]
+
 mod instructions;
 mod laws;
 mod masks;
