@@ -1,5 +1,5 @@
 -- Four lanes at a time.
-use Rattle.std.specs.Prelude.{ℕ, List, [], ◌∷◌, slice_index_or}
+use Rattle.std.specs.Prelude.{List, [], ◌∷◌, slice_index_or}
 use Rattle.units.specs.declared.values.Width.{Width}
 use Rattle.units.specs.declared.values.Width.TheVariants.{One, Two, Three, Four}
 

@@ -1,5 +1,5 @@
 -- What operations make of components: total, and right where the types are. A lane past the width is zero.
-use Rattle.std.specs.Prelude.{ℕ, Bool, false, List, [], ◌∷◌, ℤ, pos, slice_index, slice_index_or, Float}
+use Rattle.std.specs.Prelude.{ℕ, Bool, false, List, [], ◌∷◌, ℤ, pos, slice_index, slice_index_or}
 use Rattle.units.specs.declared.values.Width.{Width}
 use Rattle.units.specs.declared.values.Width.TheVariants.{One}
 use Rattle.units.specs.declared.values.Lanes.{Lanes}

@@ -1,12 +1,10 @@
 -- Requests, and what a unit answers them by.
-use Rattle.std.specs.Prelude.{◌≡◌, ℕ, Bool, true, false, cond, not, ◌&&◌, ◌||◌, List, [], ◌∷◌, ℤ, pos, is_some}
-use Rattle.records.specs.declared.types.ScalarKind.{ScalarKind}
+use Rattle.std.specs.Prelude.{◌≡◌, Bool, true, false, cond, not, ◌&&◌, ◌||◌, pos, is_some}
 use Rattle.records.specs.declared.types.ScalarKind.TheVariants as kinds
 use Rattle.records.specs.declared.types.VectorSize.TheVariants.{Quad}
 use Rattle.records.specs.declared.types.TypeInner.{TypeInner}
 use Rattle.records.specs.declared.types.TypeInner.TheVariants.{Scalar, Vector}
 use Rattle.units.specs.declared.values.Width.{Width}
-use Rattle.units.specs.declared.values.Width.TheVariants.{One, Four}
 use Rattle.units.specs.declared.values.Lanes.{Lanes}
 use Rattle.units.specs.declared.values.Lanes.TheVariants as lanes
 use Rattle.units.specs.declared.values.Components.{Components}

@@ -1,5 +1,5 @@
 -- What the two units answer.
-use Rattle.std.specs.Prelude.{◌≡◌, ℕ, Bool, true, false, cond, List, [], ◌∷◌, pos, slice_index_or, refl, Float}
+use Rattle.std.specs.Prelude.{◌≡◌, Bool, true, false, cond, List, [], ◌∷◌, pos, slice_index_or, refl, Float}
 use Rattle.std.proofs.Common.{ap}
 use Rattle.records.specs.declared.types.ScalarKind.{ScalarKind}
 use Rattle.records.specs.declared.types.ScalarKind.TheVariants as kinds
@@ -17,7 +17,7 @@ use Rattle.units.specs.declared.echo.EchoUnit.{EchoUnit}
 use Rattle.units.specs.Arithmetic.{zero_float}
 use Rattle.units.specs.Lanes.{fill}
 use Rattle.units.specs.Values.{type_of, kind_of}
-use Rattle.units.specs.Requests.{one_float, answer_type, clean, clean_lanes, Answers, Answered, Typed}
+use Rattle.units.specs.Requests.{one_float, clean, clean_lanes, Answers, Answered, Typed}
 
 abbrev pub no_lanes : ScalarKind → Lanes
 no_lanes kinds.Sint = lanes.Sint (pos 0 ∷ pos 0 ∷ pos 0 ∷ pos 0 ∷ [])

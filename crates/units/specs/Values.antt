@@ -1,5 +1,5 @@
 -- Values and their types.
-use Rattle.std.specs.Prelude.{ℕ, List}
+use Rattle.std.specs.Prelude.{ℕ}
 use Rattle.records.specs.declared.types.ScalarKind.{ScalarKind}
 use Rattle.records.specs.declared.types.ScalarKind.TheVariants as kinds
 use Rattle.records.specs.declared.types.VectorSize.TheVariants.{Bi, Tri, Quad}
@@ -9,8 +9,6 @@ use Rattle.units.specs.declared.values.Width.{Width}
 use Rattle.units.specs.declared.values.Width.TheVariants.{One, Two, Three, Four}
 use Rattle.units.specs.declared.values.Lanes.{Lanes}
 use Rattle.units.specs.declared.values.Lanes.TheVariants.{Float, Sint, Uint, Bool}
-use Rattle.units.specs.declared.values.Components.{Components}
-use Rattle.units.specs.declared.values.Reference.{Reference}
 use Rattle.units.specs.declared.values.Value.{Value}
 use Rattle.units.specs.declared.values.Value.TheVariants.{Number, Texture}
 
