@@ -9,7 +9,10 @@ use Rattle.books.specs.Books.{one}
 use Rattle.books.specs.Probing.{Cells, says, probing_held}
 use Rattle.books.specs.Ring.{ends_at, item_of, filled}
 
-swapped : {X : Type 0} (q a b : ℕ) (x y z : X) → (a ≡ b → ⊥) → cond (eqb q b) y (cond (eqb q a) x z) ≡ cond (eqb q a) x (cond (eqb q b) y z)
+turned : {X : Type 0} (q a : ℕ) (x z : X) → cond (eqb q a) x z ≡ cond (eqb a q) x z
+turned q a x z = grind (arith, nat_tests)
+
+swapped : {X : Type 0} (q a b : ℕ) (x y z : X) → (a ≡ b → ⊥) → cond (eqb q b) y (cond (eqb a q) x z) ≡ cond (eqb a q) x (cond (eqb q b) y z)
 swapped q a b x y z ne = grind (arith, nat_tests)
 
 module _ {R : Type 0} where
@@ -55,7 +58,8 @@ module _ {R : Type 0} where
       → (q : ℕ) → probing_held (set cs i (Some e)) q ≡ update eqb (probing_held cs) e.id (Some e.item) q
   unfolding probing_held
   says_put [] i e l p n q = absurd (omega arith)
-  says_put (c ∷ cs) zero e l p n q = ap (λ x. cond (eqb q e.id) (Some e.item) (says x q (probing_held cs q))) (sym p)
+  says_put (c ∷ cs) zero e l p n q =
+      ap (λ x. cond (eqb q e.id) (Some e.item) (says x q (probing_held cs q))) (sym p) ∙ turned q e.id _ _
   says_put (None ∷ cs) (suc i) e l p n q = says_put cs i e (omega arith) p n q
   says_put (Some c ∷ cs) (suc i) e l p n q =
       let apart : e.id ≡ c.id → ⊥ = λ z. lacks (Some c ∷ cs) e.id n zero c refl (sym z) in

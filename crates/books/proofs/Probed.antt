@@ -15,10 +15,11 @@ use Rattle.books.proofs.Slots.{reached_put}
 
 module _ {R : Type 0} where
   -- what a probing book keeps true of its cells and of how many it uses
-  abbrev pub Kept : Cells R → ℕ → Type 0
-  Kept cs used =
-      Reached (length cs) cs × (((id : ℕ) → Outside probing_bound id → is_some (probing_held cs id) ≡ false)
-      × ((used ≡ count (probing_book cs)) × ((used ≡ filled cs) × Unit {0})))
+  pub record Kept (cs : Cells R) (used : ℕ) : Type 0 where
+    pub reached : Reached (length cs) cs
+    pub inside : (id : ℕ) → Outside probing_bound id → is_some (probing_held cs id) ≡ false
+    pub counted : used ≡ count (probing_book cs)
+    pub busy : used ≡ filled cs
 
   -- a new record, and the free cell for it
   pub record Fresh (cs : Cells R) (i : ℕ) (e : Entry R) : Type 0 where
@@ -59,15 +60,15 @@ module _ {R : Type 0} where
 
   pub kept_put : (cs new : Cells R) (i : ℕ) (e : Entry R) (used : ℕ) → Fresh cs i e → new ≡ set cs i (Some e)
       → Kept cs used → Kept new (used + 1)
-  kept_put cs new i e used f is (reached, (inside, (counted, (busy, _)))) =
-      let reaches = reached_put cs i e f.within f.new reached f.sought in
-      let lies = inside_put cs i e f inside in
+  kept_put cs new i e used f is kept =
+      let reaches = reached_put cs i e f.within f.new kept.reached f.sought in
+      let lies = inside_put cs i e f kept.inside in
       let more =
       ap count (book_put cs (set cs i (Some e)) i e f refl)
       ∙ present_put (probing_held cs) e.id e.item probing_bound f.legal.1 f.new in
-      let counts = ap (λ n. n + 1) counted ∙ sym more in
-      let fills = ap (λ n. n + 1) busy ∙ sym (filled_put cs i e f.within f.free) in
-      subst (λ cells. Kept cells (used + 1)) (sym is) (reaches, (lies, (counts, (fills, tt))))
+      let counts = ap (λ n. n + 1) kept.counted ∙ sym more in
+      let fills = ap (λ n. n + 1) kept.busy ∙ sym (filled_put cs i e f.within f.free) in
+      subst (λ cells. Kept cells (used + 1)) (sym is) (record { reached = reaches; inside = lies; counted = counts; busy = fills })
 
   pub answer_ok : (cs : Cells R) (i : ℕ) (e : Entry R) → Fresh cs i e → count (probing_book cs) < length cs
       → answer (probing_book cs) e.id ≡ Ok tt
@@ -96,4 +97,9 @@ module _ {R : Type 0} where
   kept_empty cs h =
       let reaches : Reached (length cs) cs = λ w. absurd (no_entry w.e (sym (h w.i) ∙ w.here)) in
       let counts = sym (present_empty (probing_held cs) probing_bound (held_none cs h)) in
-      (reaches, ((λ id _. ap is_some (held_none cs h id)), (counts, (sym (filled_none cs h), tt))))
+      record {
+        reached = reaches;
+        inside = λ id _. ap is_some (held_none cs h id);
+        counted = counts;
+        busy = sym (filled_none cs h);
+      }

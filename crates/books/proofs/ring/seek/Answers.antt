@@ -14,7 +14,7 @@ loop-passed-preserved g c =
     let cs = c.args.cells.now in
     let w = c.loop-passed in
     let o : ends_at (get_or cs w.i None) c.args.id ≡ false = cc in
-    walk_on (length cs) cs c.args.id w.i _ w.-passed w.invariant (omega arith) o c.following-i.ensures
+    walk_on (length cs) cs c.args.id w.i _ w._passed w.invariant (omega arith) o c.following-i.ensures
 
 pub returns : goal.returns
 returns g c =

@@ -6,8 +6,8 @@ pub returns : goal.returns
 returns c =
     sample_written c.args.used _ _ c.args.plan c.args.expressions.now _ _ _ _
     (ap (λ n. c.args.used + n) c.count.ensures.value)
-    (ap (λ n. c.args.used + c.count.result + n) c.reference-count.ensures.value)
-    c.extract-image-coordinates-array-index.ensures.cells
-    c.divide-reference-depth-ref.ensures.cells
+    (ap (λ n. c.args.used + c.count.result + n) c.reference_count.ensures.value)
+    c.extract_image_coordinates-array_index.ensures.cells
+    c.divide_reference-depth_ref.ensures.cells
     (search rules)
-    c.append-asking.ensures
+    c.append_asking.ensures

@@ -8,32 +8,32 @@ use Rattle.words.proofs.operands.take_operands.Goals as goal
 
 pub with-operands-requires : goal.with-operands-requires
 with-operands-requires c =
-    let h = turn c.loop-image-ops.image-ops c.loop-image-ops-test.true c.loop-image-ops.invariant.0 in
-    let w = within _ c.args.mask _ (counted _ _ c.args.mask _ _ _ h c.loop-image-ops.invariant.3 refl) in
+    let h = turn c.loop-image_ops.image_ops c.loop-image_ops-test.true c.loop-image_ops.invariant.0 in
+    let w = within _ c.args.mask _ (counted _ _ c.args.mask _ _ _ h c.loop-image_ops.invariant.3 refl) in
     (omega (arith, w, c.requires.0), c.requires.1)
 
-pub overflow-add-next : goal.overflow-add-next
-overflow-add-next c =
-    let h = turn c.loop-image-ops.image-ops c.loop-image-ops-test.true c.loop-image-ops.invariant.0 in
-    record { fits = small _ c.args.mask _ (counted _ _ c.args.mask _ _ _ h c.loop-image-ops.invariant.3 c.words-at-next.ensures) }
+pub overflow_add-next : goal.overflow_add-next
+overflow_add-next c =
+    let h = turn c.loop-image_ops.image_ops c.loop-image_ops-test.true c.loop-image_ops.invariant.0 in
+    record { fits = small _ c.args.mask _ (counted _ _ c.args.mask _ _ _ h c.loop-image_ops.invariant.3 c.words_at-next.ensures) }
 
-pub loop-image-ops-smaller : goal.loop-image-ops-smaller
-loop-image-ops-smaller c = falls 32 _ _ _ (turn c.loop-image-ops.image-ops c.loop-image-ops-test.true c.loop-image-ops.invariant.0)
+pub loop-image_ops-smaller : goal.loop-image_ops-smaller
+loop-image_ops-smaller c = falls 32 _ _ _ (turn c.loop-image_ops.image_ops c.loop-image_ops-test.true c.loop-image_ops.invariant.0)
 
-pub loop-image-ops-preserved : goal.loop-image-ops-preserved
-loop-image-ops-preserved c =
-    let h = turn c.loop-image-ops.image-ops c.loop-image-ops-test.true c.loop-image-ops.invariant.0 in
+pub loop-image_ops-preserved : goal.loop-image_ops-preserved
+loop-image_ops-preserved c =
+    let h = turn c.loop-image_ops.image_ops c.loop-image_ops-test.true c.loop-image_ops.invariant.0 in
     let l = falls 32 _ _ _ h in (
-      omega (arith, l, c.loop-image-ops.invariant.0),
+      omega (arith, l, c.loop-image_ops.invariant.0),
       c.with-operands.ensures
-          ∙ ap (λ ops. taken (count_trailing_zeros 32 c.loop-image-ops.image-ops) c.args.words.now c.args.first c.loop-image-ops.next ops) c.loop-image-ops.invariant.1
-          ∙ waiting_turn c.args.mask _ _ _ c.loop-image-ops.next c.args.words.now c.args.first h c.loop-image-ops.invariant.2,
-      ahead_turn c.args.mask _ _ _ c.loop-image-ops.next _ h c.loop-image-ops.invariant.2 c.words-at-next.ensures,
-      counted _ _ c.args.mask _ _ _ h c.loop-image-ops.invariant.3 c.words-at-next.ensures,
+          ∙ ap (λ ops. taken (count_trailing_zeros 32 c.loop-image_ops.image_ops) c.args.words.now c.args.first c.loop-image_ops.next ops) c.loop-image_ops.invariant.1
+          ∙ waiting_turn c.args.mask _ _ _ c.loop-image_ops.next c.args.words.now c.args.first h c.loop-image_ops.invariant.2,
+      ahead_turn c.args.mask _ _ _ c.loop-image_ops.next _ h c.loop-image_ops.invariant.2 c.words_at-next.ensures,
+      counted _ _ c.args.mask _ _ _ h c.loop-image_ops.invariant.3 c.words_at-next.ensures,
     )
 
 pub returns : goal.returns
 returns c =
-    c.loop-image-ops.invariant.1
-    ∙ ap (λ n. waiting n c.args.mask c.args.words.now c.args.first) c.loop-image-ops-test.false
+    c.loop-image_ops.invariant.1
+    ∙ ap (λ n. waiting n c.args.mask c.args.words.now c.args.first) c.loop-image_ops-test.false
     ∙ waiting_none c.args.mask c.args.words.now c.args.first

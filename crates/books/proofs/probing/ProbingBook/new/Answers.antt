@@ -4,8 +4,10 @@ use Rattle.books.specs.Probing.{probing_bound}
 use Rattle.books.proofs.Probed.{book_empty, kept_empty}
 use Rattle.books.proofs.probing.ProbingBook.new.Goals as goal
 
-pub invariant-of-result : goal.invariant-of-result
-invariant-of-result g c = kept_empty c.clear.new.cells c.clear.ensures
+pub invariant_of-result : goal.invariant_of-result
+invariant_of-result g c =
+    let k = kept_empty c.clear.new.cells c.clear.ensures in
+    record { reached = k.reached; inside = k.inside; counted = k.counted; busy = k.busy }
 
 pub returns : goal.returns
 returns g c = book_empty c.clear.new.cells c.clear.ensures ∙ ap (empty_book probing_bound) c.clear.auto.cells

@@ -9,20 +9,21 @@ bounds-self-i g c =
     let b = c.args.self.now in
     c.slot-i.ensures.room (omega (arith, b.busy, filled_le b.cells.now))
 
-pub overflow-add-self : goal.overflow-add-self
-overflow-add-self g c =
+pub overflow_add-self : goal.overflow_add-self
+overflow_add-self g c =
     let b = c.args.self.now in
     omega (arith, b.busy, filled_le b.cells.now)
 
-pub invariant-of-self : goal.invariant-of-self
-invariant-of-self g c =
+pub invariant_of-self : goal.invariant_of-self
+invariant_of-self g c =
     let b = c.args.self.now in
     let cs = b.cells.now in
     let i = c.slot-i.result in
     let e : Entry g.row.R.Denot = record { id = c.args.id; item = c.args.item } in
     let free : is_some (get_or cs i None) ≡ false = cc in
     let f = fresh cs i e c.slot-i.ensures free (omega (arith, b.busy, filled_le cs)) (omega arith) (omega arith) in
-    kept_put cs _ i e b.used f refl (b.reached, (b.inside, (b.counted, (b.busy, tt))))
+    let k = kept_put cs _ i e b.used f refl (record { reached = b.reached; inside = b.inside; counted = b.counted; busy = b.busy }) in
+    record { reached = k.reached; inside = k.inside; counted = k.counted; busy = k.busy }
 
 pub returns : goal.returns
 returns g c =

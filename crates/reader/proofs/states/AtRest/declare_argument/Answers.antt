@@ -6,7 +6,7 @@ use Rattle.reader.specs.Declares.{resource_for}
 use Rattle.reader.proofs.Declared.{ValueReady, value_ready}
 use Rattle.reader.proofs.states.AtRest.declare_argument.Given as given
 use Rattle.reader.proofs.states.AtRest.declare_argument.Goals as goal
-use Rattle.reader.proofs.states.AtRest.declare_argument.Goals.{In-Ok, at·append-value-lookup-requires}
+use Rattle.reader.proofs.states.AtRest.declare_argument.Goals.{In-Ok, at·append_value-lookup-requires}
 
 abbrev cells : (g : given.Over) (c : In-Ok g) → Cells
 cells g c = cells_of c.args.self.counts c.args.lists.now
@@ -18,7 +18,7 @@ ready : (g : given.Over) (c : In-Ok g)
     → ValueReady None (cells g c) (books g c) c.args.id (resource_for (used (cells g c).types) (books g c) c.args.ty) (room_for 1 (cells g c).arguments max_arguments) c.in-Ok.ty
 ready g c = value_ready None (cells g c) (books g c) c.args.id _ _ c.in-Ok.ty (sym c.in-Ok.ensures)
 
-pub append-value-lookup-requires : goal.append-value-lookup-requires
-append-value-lookup-requires g c =
-    let r = ready g (at·append-value-lookup-requires g c).In-Ok in
+pub append_value-lookup-requires : goal.append_value-lookup-requires
+append_value-lookup-requires g c =
+    let r = ready g (at·append_value-lookup-requires g c).In-Ok in
     record { room = let h = r.room in omega arith; new = r.new; space = r.space }

@@ -22,5 +22,5 @@ pub unwrap-requires-in-None : goal.unwrap-requires-in-None
 unwrap-requires-in-None g c =
     let r = ready g (at·unwrap-requires-in-None g c).In-Ok in put_ok _ _ _ _ _ _ c.put-in-None.ensures r.new r.space
 
-pub overflow-add-counts : goal.overflow-add-counts
-overflow-add-counts g c = let r = (ready g (at·add-counts g c).In-Ok).room c.in-None.is in omega arith
+pub overflow_add-counts : goal.overflow_add-counts
+overflow_add-counts g c = let r = (ready g (at·add-counts g c).In-Ok).room c.in-None.is in omega arith

@@ -5,7 +5,7 @@ use Rattle.reader.specs.Brings.{element_for}
 use Rattle.reader.proofs.Declared.{ValueReady, value_ready, brought_inside}
 use Rattle.reader.proofs.states.Reading.bring_element.Given as given
 use Rattle.reader.proofs.states.Reading.bring_element.Goals as goal
-use Rattle.reader.proofs.states.Reading.bring_element.Goals.{In-Ok, at·append-value-lookup-requires}
+use Rattle.reader.proofs.states.Reading.bring_element.Goals.{In-Ok, at·append_value-lookup-requires}
 
 abbrev cells : (g : given.Over) (c : In-Ok g) → Cells
 cells g c = cells_of c.args.self.counts c.args.lists.now
@@ -17,7 +17,7 @@ ready : (g : given.Over) (c : In-Ok g)
     → ValueReady (Some c.args.self.emitter.start_len) (cells g c) (books g c) c.args.id (element_for (used (cells g c).types) (length (used (cells g c).expressions)) (books g c) c.args.base c.args.index) true c.in-Ok.element
 ready g c = value_ready (Some c.args.self.emitter.start_len) (cells g c) (books g c) c.args.id _ true c.in-Ok.element (sym c.in-Ok.ensures)
 
-pub append-value-lookup-requires : goal.append-value-lookup-requires
-append-value-lookup-requires g c =
-    let r = ready g (at·append-value-lookup-requires g c).In-Ok in
+pub append_value-lookup-requires : goal.append_value-lookup-requires
+append_value-lookup-requires g c =
+    let r = ready g (at·append_value-lookup-requires g c).In-Ok in
     record { room = let h = r.room in omega arith; new = r.new; space = r.space }

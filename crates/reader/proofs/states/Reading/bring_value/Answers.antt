@@ -5,7 +5,7 @@ use Rattle.reader.specs.Brings.{number_for}
 use Rattle.reader.proofs.Declared.{ValueReady, value_ready, brought_inside}
 use Rattle.reader.proofs.states.Reading.bring_value.Given as given
 use Rattle.reader.proofs.states.Reading.bring_value.Goals as goal
-use Rattle.reader.proofs.states.Reading.bring_value.Goals.{In-Ok, at·append-value-lookup-requires, at·add-counts, at·add-counts-2}
+use Rattle.reader.proofs.states.Reading.bring_value.Goals.{In-Ok, at·append_value-lookup-requires, at·add-counts, at·add-counts-2}
 
 abbrev cells : (g : given.Over) (c : In-Ok g) → Cells
 cells g c = cells_of c.args.self.counts c.args.lists.now
@@ -17,17 +17,17 @@ ready : (g : given.Over) (c : In-Ok g)
     → ValueReady (Some c.args.self.emitter.start_len) (cells g c) (books g c) c.args.id (number_for (used (cells g c).types) (books g c) c.args.ty) true c.in-Ok.ty
 ready g c = value_ready (Some c.args.self.emitter.start_len) (cells g c) (books g c) c.args.id _ true c.in-Ok.ty (sym c.in-Ok.ensures)
 
-pub append-value-lookup-requires : goal.append-value-lookup-requires
-append-value-lookup-requires g c =
-    let r = ready g (at·append-value-lookup-requires g c).In-Ok in
+pub append_value-lookup-requires : goal.append_value-lookup-requires
+append_value-lookup-requires g c =
+    let r = ready g (at·append_value-lookup-requires g c).In-Ok in
     record { room = let h = r.room in omega arith; new = r.new; space = r.space }
 
-pub overflow-add-counts : goal.overflow-add-counts
-overflow-add-counts g c =
+pub overflow_add-counts : goal.overflow_add-counts
+overflow_add-counts g c =
     let r = ready g (at·add-counts g c).In-Ok in
     let h = r.room in
     let k = brought_inside (Some c.args.self.emitter.start_len) (cells_of c.args.self.counts c.args.lists.now) r.state in
     omega arith
 
-pub overflow-add-counts-2 : goal.overflow-add-counts-2
-overflow-add-counts-2 g c = let h = (ready g (at·add-counts-2 g c).In-Ok).room in omega arith
+pub overflow_add-counts-2 : goal.overflow_add-counts-2
+overflow_add-counts-2 g c = let h = (ready g (at·add-counts-2 g c).In-Ok).room in omega arith

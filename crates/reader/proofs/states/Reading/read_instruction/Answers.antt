@@ -9,7 +9,7 @@ use Rattle.reader.proofs.Passed.{put_ok}
 use Rattle.reader.proofs.Readied.{ReadReady, read_ready, reads_so, couple_ready, sample_ready, load_ready, store_ready}
 use Rattle.reader.proofs.states.Reading.read_instruction.Given as given
 use Rattle.reader.proofs.states.Reading.read_instruction.Goals as goal
-use Rattle.reader.proofs.states.Reading.read_instruction.Goals.{In-Ok, at·unwrap-requires, at·commit-sample-requires, at·commit-load-requires, at·commit-store-reader-requires, at·returns-in-Sample, at·returns-in-Load, at·returns-in-Store}
+use Rattle.reader.proofs.states.Reading.read_instruction.Goals.{In-Ok, at·unwrap-requires, at·commit_sample-requires, at·commit_load-requires, at·commit_store-reader-requires, at·returns-in-Sample, at·returns-in-Load, at·returns-in-Store}
 
 abbrev emitter : (g : given.Over) (c : In-Ok g) → Option ℕ
 emitter g c = Some c.args.self.emitter.start_len
@@ -36,21 +36,21 @@ unwrap-requires g c =
     let r = couple_ready (emitter g d) (cells g d) (books g d) (words g d) d.in-Ok.planned (ready g d) c.in-Couple.couple c.in-Couple.is in
     put_ok _ _ _ _ _ _ c.put.ensures r.0 r.1
 
-pub commit-sample-requires : goal.commit-sample-requires
-commit-sample-requires g c =
-    let d = (at·commit-sample-requires g c).In-Ok in
+pub commit_sample-requires : goal.commit_sample-requires
+commit_sample-requires g c =
+    let d = (at·commit_sample-requires g c).In-Ok in
     let r = sample_ready (emitter g d) (cells g d) (books g d) (words g d) d.in-Ok.planned (ready g d) c.in-Sample.plan c.in-Sample.is in
     record { inside = r.inside; limit = r.limit; new = r.new; space = r.space }
 
-pub commit-load-requires : goal.commit-load-requires
-commit-load-requires g c =
-    let d = (at·commit-load-requires g c).In-Ok in
+pub commit_load-requires : goal.commit_load-requires
+commit_load-requires g c =
+    let d = (at·commit_load-requires g c).In-Ok in
     let r = load_ready (emitter g d) (cells g d) (books g d) (words g d) d.in-Ok.planned (ready g d) c.in-Load.plan c.in-Load.is in
     record { inside = r.inside; limit = r.limit; new = r.new; space = r.space }
 
-pub commit-store-reader-requires : goal.commit-store-reader-requires
-commit-store-reader-requires g c =
-    let d = (at·commit-store-reader-requires g c).In-Ok in
+pub commit_store-reader-requires : goal.commit_store-reader-requires
+commit_store-reader-requires g c =
+    let d = (at·commit_store-reader-requires g c).In-Ok in
     let r = store_ready (emitter g d) (cells g d) (books g d) (words g d) d.in-Ok.planned (ready g d) c.in-Store.plan c.in-Store.is in
     record { inside = r.inside; limit = r.limit; cells = r.cells; few = r.few }
 

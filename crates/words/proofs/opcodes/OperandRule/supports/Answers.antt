@@ -21,17 +21,17 @@ first rule b n t y h e = over_turn (also_permits rule) true 32 n t y h 32 h.insi
 
 pub returns-then-not-permits : goal.returns-then-not-permits
 returns-then-not-permits c =
-    let h = turn c.loop-image-ops.image-ops c.loop-image-ops-test.true c.loop-image-ops.invariant.0 in
-    sym (first _ false _ _ _ h (sym c.if-not-permits.ensures) ∙ refused _ _ 32) ∙ c.loop-image-ops.invariant.1
+    let h = turn c.loop-image_ops.image_ops c.loop-image_ops-test.true c.loop-image_ops.invariant.0 in
+    sym (first _ false _ _ _ h (sym c.if-not-permits.ensures) ∙ refused _ _ 32) ∙ c.loop-image_ops.invariant.1
 
-pub loop-image-ops-smaller : goal.loop-image-ops-smaller
-loop-image-ops-smaller c = falls 32 _ _ _ (turn c.loop-image-ops.image-ops c.loop-image-ops-test.true c.loop-image-ops.invariant.0)
+pub loop-image_ops-smaller : goal.loop-image_ops-smaller
+loop-image_ops-smaller c = falls 32 _ _ _ (turn c.loop-image_ops.image_ops c.loop-image_ops-test.true c.loop-image_ops.invariant.0)
 
-pub loop-image-ops-preserved : goal.loop-image-ops-preserved
-loop-image-ops-preserved c =
-    let h = turn c.loop-image-ops.image-ops c.loop-image-ops-test.true c.loop-image-ops.invariant.0 in
+pub loop-image_ops-preserved : goal.loop-image_ops-preserved
+loop-image_ops-preserved c =
+    let h = turn c.loop-image_ops.image_ops c.loop-image_ops-test.true c.loop-image_ops.invariant.0 in
     let l = falls 32 _ _ _ h in
-    (omega (arith, l, c.loop-image-ops.invariant.0), sym (first _ true _ _ _ h (sym c.if-not-permits.ensures)) ∙ c.loop-image-ops.invariant.1)
+    (omega (arith, l, c.loop-image_ops.invariant.0), sym (first _ true _ _ _ h (sym c.if-not-permits.ensures)) ∙ c.loop-image_ops.invariant.1)
 
 pub returns : goal.returns
-returns c = sym (over_zero (also_permits c.args.self) true 32) ∙ ap (λ n. supports c.args.self n) (sym c.loop-image-ops-test.false) ∙ c.loop-image-ops.invariant.1
+returns c = sym (over_zero (also_permits c.args.self) true 32) ∙ ap (λ n. supports c.args.self n) (sym c.loop-image_ops-test.false) ∙ c.loop-image_ops.invariant.1
