@@ -1,5 +1,5 @@
 -- The three laws of an instruction's words.
-use Rattle.std.proofs.Common.{◌≡◌, ℕ, ◌+◌, ◌/◌, ◌<◌, ◌≤◌, Bool, true, false, cond, not, ◌||◌, eqb, ltb, List, [], ◌∷◌, ◌++◌, length, get_or, take, drop, is_some, Some, None, Ok, Err, Option, Result, unwrap_or, sym, refl, ap, ◌∙◌, subst, arith, length-append}
+use Rattle.std.proofs.Common.{◌≡◌, ℕ, ◌+◌, ◌/◌, ◌≤◌, Bool, true, false, cond, not, ◌||◌, eqb, ltb, List, [], ◌∷◌, ◌++◌, length, get_or, take, drop, is_some, Some, None, Ok, Err, Option, Result, unwrap_or, sym, refl, ap, ◌∙◌, subst, arith, length-append}
 use lib.Seq.{take-append-le}
 use Rattle.std.proofs.lemmas.List.{drop-drop}
 use Rattle.std.proofs.lemmas.Bool.{or_parts, ltb-false, eqb-true, not-false}
@@ -14,11 +14,11 @@ use Rattle.words.specs.declared.opcodes.Opcode.{Opcode}
 use Rattle.words.specs.declared.opcodes.Opcode.TheVariants.{SampledImage}
 use Rattle.words.specs.declared.operands.ImageOperands.{ImageOperands}
 use Rattle.words.specs.declared.instructions.Instruction.{Instruction}
-use Rattle.words.specs.Opcodes.{numbered, row_of, place}
+use Rattle.words.specs.Opcodes.{row_of, place}
 use Rattle.words.specs.Masks.{has, supports, allows, words_needed, words_below}
 use Rattle.words.specs.Operands.{id_at, grad_at, operand, operands_of}
 use Rattle.words.specs.Instructions.{refuse, check, and_then, count_in, opcode_in, too_few_words, wrong_count, first_word, mask_checks, image_operands, described, instruction}
-use Rattle.words.specs.Laws.{PastTheCount, OperandsInOrder, FaultsInOrder, Spelled, counted, mask_of, after_mask, first_fault, checks, opcode_of}
+use Rattle.words.specs.Laws.{PastTheCount, OperandsInOrder, FaultsInOrder, Spelled, counted, mask_of, after_mask, first_fault}
 use Rattle.words.proofs.Spells.{spells}
 
 -- what an instruction says, from its first word and the words that its count says

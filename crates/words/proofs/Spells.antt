@@ -1,8 +1,8 @@
 -- The operands of a mask are the words after it, in their order.
-use Rattle.std.proofs.Common.{◌≡◌, ℕ, zero, suc, ◌+◌, ◌<◌, ◌≤◌, Bool, true, false, cond, eqb, List, [], ◌∷◌, ◌++◌, length, get_or, Some, None, sym, refl, ap, ◌∙◌, subst, append_assoc, arith}
+use Rattle.std.proofs.Common.{◌≡◌, ℕ, zero, suc, ◌+◌, Bool, true, false, cond, List, [], ◌∷◌, ◌++◌, length, get_or, Some, None, sym, refl, ap, ◌∙◌, append_assoc, arith}
 use Rattle.std.proofs.lemmas.Bool.Decides.{nat_tests}
 use Rattle.words.specs.declared.operands.IdRef.{IdRef}
-use Rattle.words.specs.Masks.{has, over, add_words, words_at, words_below, words_needed}
+use Rattle.words.specs.Masks.{has, over, words_at, words_below, words_needed}
 use Rattle.words.specs.Operands.{id_at, grad_at, operand, operands_of}
 use Rattle.words.specs.Laws.{one, two, spelled, placed}
 

@@ -1,5 +1,5 @@
 -- The operands after a mask: SPIR-V puts them in the order of their bits, the lowest first.
-use Rattle.std.specs.Prelude.{ℕ, ◌+◌, Bool, cond, List, Some, None, Option, ◌==◌, slice_index}
+use Rattle.std.specs.Prelude.{ℕ, ◌+◌, cond, List, Some, None, Option, ◌==◌, slice_index}
 use Rattle.words.specs.declared.operands.IdRef.{IdRef}
 use Rattle.words.specs.declared.operands.Gradient.{Gradient}
 use Rattle.words.specs.declared.operands.ImageOperands.{ImageOperands}

@@ -1,4 +1,4 @@
-use Rattle.std.proofs.Common.{◌≡◌, ℕ, zero, suc, ◌<◌, Bool, true, false, cond, ◌&&◌, sym, refl, ap, ◌∙◌, arith}
+use Rattle.std.proofs.Common.{◌≡◌, ℕ, zero, suc, Bool, true, false, cond, ◌&&◌, sym, refl, ap, ◌∙◌, arith}
 use Rattle.words.specs.declared.opcodes.OperandRule.{OperandRule}
 use Rattle.words.specs.Masks.{has, over, also_permits, permits, supports}
 use Rattle.words.proofs.Walks.{Turn, turn, falls, over_turn, over_zero}

@@ -1,5 +1,5 @@
-use Rattle.std.proofs.Common.{◌≡◌, ◌^◌, ◌<◌, true}
-use Rattle.words.specs.Masks.{over, also_permits, supports}
+use Rattle.std.proofs.Common.{◌≡◌, ◌^◌, ◌<◌}
+use Rattle.words.specs.Masks.{supports}
 use Rattle.words.proofs.opcodes.OperandRule.supports.Given as goal
 
 -- what is left of the mask decides
