@@ -8,7 +8,7 @@ use Rattle.run.proofs.inputs.input_type.Goals as goal
 
 pub returns-then-k-inputs : goal.returns-then-k-inputs
 returns-then-k-inputs c =
-    ap Some c.components-type.ensures
+    ap Some c.components_type.ensures
     ∙ sym (ap (option_map (λ (x : Components). type_of (Number x))) (slice_get-get_or c.args.inputs.now c.args.number _ c.if-k-inputs.true))
 
 pub returns-else-k-inputs : goal.returns-else-k-inputs

@@ -13,14 +13,14 @@ returns-then-i-lists t c =
 pub returns-in-Some : goal.returns-in-Some
 returns-in-Some t c =
     static_stated (env_of c.args.lists) c.args.lists.expressions.now c.args.handle _ c.in-Some.result _ c.if-i-lists.false
-    c.in-Some.is c.type-at.ensures
+    c.in-Some.is c.type_at.ensures
 
 pub returns : goal.returns
 returns t c =
     static_made (env_of c.args.lists) c.args.lists.expressions.now c.args.handle _ c.if-base-handle.below _ c.if-i-lists.false
-    c.in-default.is
+    c.in_default.is
     (elim c.if-base-handle.branch [
-      | then-base-handle w ↦ below_then _ _ c.if-base-handle.below _ w.if-base-handle.true (w.below-is ∙ w.static-type-below.ensures)
+      | then-base-handle w ↦ below_then _ _ c.if-base-handle.below _ w.if-base-handle.true (w.below-is ∙ w.static_type-below.ensures)
       | else-base-handle w ↦ below_else _ _ c.if-base-handle.below _ w.if-base-handle.false w.below-is
     ])
-    c.static-tag.ensures
+    c.static_tag.ensures

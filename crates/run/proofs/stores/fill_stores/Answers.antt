@@ -2,10 +2,10 @@ use Rattle.std.proofs.Common.{arith}
 use Rattle.run.proofs.Storing.{listing_none, listing_store, listing_emit, listing_room, listing_all}
 use Rattle.run.proofs.stores.fill_stores.Goals as goal
 
-pub loop-j-preserved-in-default : goal.loop-j-preserved-in-default
-loop-j-preserved-in-default c =
+pub loop-j-preserved-in_default : goal.loop-j-preserved-in_default
+loop-j-preserved-in_default c =
     listing_emit _ c.args.statements.now c.args.requests.now c.loop-j.requests c.loop-j.j c.loop-j.k _ _
-    (omega arith) c.in-default.is c.loop-j.invariant
+    (omega arith) c.in_default.is c.loop-j.invariant
 
 pub bounds-requests-k : goal.bounds-requests-k
 bounds-requests-k c =
@@ -18,7 +18,7 @@ loop-j-preserved c =
     (omega arith) c.in-ImageStore.is
     (listing_room _ c.args.statements.now c.args.requests.now c.loop-j.requests c.loop-j.j c.loop-j.k _ _ _ _ _
     (omega arith) c.in-ImageStore.is c.requires c.loop-j.invariant)
-    c.store-request.ensures c.loop-j.invariant
+    c.store_request.ensures c.loop-j.invariant
 
 pub returns : goal.returns
 returns c = listing_all _ c.args.statements.now c.args.requests.now c.loop-j.requests c.loop-j.j c.loop-j.k (omega arith) c.loop-j.invariant

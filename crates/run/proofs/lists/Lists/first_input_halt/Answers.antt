@@ -4,11 +4,11 @@ use Rattle.run.proofs.lists.Lists.first_input_halt.Goals as goal
 
 pub returns-in-Some : goal.returns-in-Some
 returns-in-Some c =
-    first_here _ c.args.self.expressions.now c.loop-i.i _ _ _ (omega arith) (sym c.input-halt.ensures ∙ c.in-Some.is) c.loop-i.invariant
+    first_here _ c.args.self.expressions.now c.loop-i.i _ _ _ (omega arith) (sym c.input_halt.ensures ∙ c.in-Some.is) c.loop-i.invariant
 
 pub loop-i-preserved : goal.loop-i-preserved
 loop-i-preserved c =
-    first_on _ c.args.self.expressions.now c.loop-i.i _ _ (omega arith) (sym c.input-halt.ensures ∙ c.in-None.is) c.loop-i.invariant
+    first_on _ c.args.self.expressions.now c.loop-i.i _ _ (omega arith) (sym c.input_halt.ensures ∙ c.in-None.is) c.loop-i.invariant
 
 pub returns : goal.returns
 returns c = first_none _ c.args.self.expressions.now c.loop-i.i _ (omega arith) c.loop-i.invariant
