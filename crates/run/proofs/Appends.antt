@@ -1,5 +1,5 @@
 -- Laws over a list in two parts.
-use Rattle.std.proofs.Common.{◌≡◌, ℕ, suc, ◌+◌, List, [], ◌∷◌, ◌++◌, length, Some, None, Option, refl, ap, ◌∙◌, arith}
+use Rattle.std.proofs.Common.{◌≡◌, ℕ, suc, ◌+◌, List, [], ◌∷◌, ◌++◌, length, Some, None, Option, sym, refl, ap, ◌∙◌, arith}
 use Rattle.records.specs.declared.statements.Statement.TheVariants.{Emit, ImageStore}
 use Rattle.units.specs.declared.values.Value.{Value}
 use Rattle.units.specs.declared.requests.Request.{Request}
@@ -11,6 +11,7 @@ use Rattle.run.specs.Laws.{goes_on, RunAppends, AskedAppends, StoresAppend, Stor
 use Rattle.run.specs.Rules.{seen}
 use Rattle.run.specs.Runs.{Progress, proceeds, run_over, types_of, value_at, or_else, first_halt}
 use Rattle.run.specs.Stores.{store_halt, store_request_of, stores, store_count}
+use Rattle.run.proofs.Storing.{stores_turn}
 
 proceeds_on : (s : Sight) (i : ℕ) (p : Progress) (rest : List Value → Progress) → proceeds s i (goes_on p rest) ≡ goes_on (proceeds s i p) rest
 proceeds_on (sights.Fine t) i p rest = refl
@@ -37,7 +38,8 @@ pub stores_append : StoresAppend
 unfolding stores
 stores_append at [] ts = refl
 stores_append at (s ∷ ss) ts =
-    ap (with_request (store_request_of at s)) (stores_append at ss ts) ∙ request_on (store_request_of at s) (stores at ss) (stores at ts)
+    stores_turn at s (ss ++ ts) ∙ ap (with_request (store_request_of at s)) (stores_append at ss ts)
+    ∙ request_on (store_request_of at s) (stores at ss) (stores at ts) ∙ ap (λ rs. rs ++ stores at ts) (sym (stores_turn at s ss))
 
 pub store_counts_add : StoreCountsAdd
 unfolding store_count

@@ -21,6 +21,7 @@ use Rattle.run.specs.Types.{class_kind}
 use Rattle.run.proofs.Again.{is_some, int_some, value_stays, type_stays, layer_stays}
 use Rattle.run.proofs.Grown.{and_holds, one_holds, option_holds}
 use Rattle.run.proofs.Steps.{first_none_of, rest_none_of}
+use Rattle.run.proofs.Storing.{stores_turn}
 
 -- a store with what it needs: it has that from more values too, and makes the same request
 record Again (vs us : List Value) (i c : ExpressionHandle) (l : Option ExpressionHandle) (v : ExpressionHandle) : Type 0 where
@@ -92,7 +93,8 @@ module _ (env env' : Env) (grows : Grows env env') (vs us : List Value) where
       let first = one_stays j s (first_none_of (store_halt env (types_of vs) j s) _ is) in
       let rest = all_stay (suc j) ss (rest_none_of (store_halt env (types_of vs) j s) _ is) in (
         ap (λ o. or_else o (halting_stores env' (types_of (vs ++ us)) (suc j) ss)) first.0 ∙ rest.0,
-        ap (λ o. with_request o (stores (value_at (vs ++ us)) ss)) first.1 ∙ ap (with_request (store_request_of (value_at vs) s)) rest.1,
+        stores_turn (value_at (vs ++ us)) s ss ∙ ap (λ o. with_request o (stores (value_at (vs ++ us)) ss)) first.1
+            ∙ ap (with_request (store_request_of (value_at vs) s)) rest.1 ∙ sym (stores_turn (value_at vs) s ss),
       )
 
 pub stores_grow : StoresGrow

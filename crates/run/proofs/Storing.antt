@@ -8,6 +8,7 @@ use Rattle.records.specs.declared.statements.Statement.TheVariants.{Emit, ImageS
 use Rattle.records.specs.declared.statements.EmitRange.{EmitRange}
 use Rattle.units.specs.declared.values.Value.{Value}
 use Rattle.units.specs.declared.requests.Request.{Request}
+use Rattle.run.specs.Asked.{with_request}
 use Rattle.run.specs.Runs.{value_at}
 use Rattle.run.specs.Worth.{Values}
 use Rattle.run.specs.Stores.{store_request, store_request_of, stores, store_count}
@@ -105,3 +106,9 @@ pub request_of_store : (vs : List Value) (s : Statement) (i c : ExpressionHandle
     → s ≡ ImageStore i c l v → q ≡ store_request (value_at (take (length vs) vs)) i c l v → Some q ≡ store_request_of (value_at vs) s
 request_of_store vs s i c l v q is made =
     ap Some (made ∙ ap (λ us. store_request (value_at us) i c l v) (take-length vs)) ∙ sym (ap (store_request_of (value_at vs)) is)
+
+-- the stores of one statement and of those after it
+pub stores_turn : (at : Values) (s : Statement) (ss : List Statement) → stores at (s ∷ ss) ≡ with_request (store_request_of at s) (stores at ss)
+unfolding stores
+stores_turn at (Emit r) ss = refl
+stores_turn at (ImageStore i c l v) ss = refl

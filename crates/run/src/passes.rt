@@ -47,7 +47,7 @@ pub(crate) fn fill_values<U: TextureUnit>(
     values: &mut [Value],
 )
     requires { length lists.expressions.now ≤ length values.old }
-    ensures { values.new ≡ worked (worth (env_of lists.entry) (answers unit.now) (input_at inputs.now)) [] lists.entry.expressions.now ++ drop (length lists.entry.expressions.now) values.old }
+    ensures { values.new ≡ worked (worth (env_of lists.entry) (U.answers unit.now) (input_at inputs.now)) [] lists.entry.expressions.now ++ drop (length lists.entry.expressions.now) values.old }
 {
     for i in 0..lists.expressions.len() {
         values[i] = work_out(lists, unit, inputs, values, i, lists.expressions[i]);

@@ -60,9 +60,9 @@ pub fn run<U: TextureUnit>(
     values: &mut [Value],
     requests: &mut [Request],
 ) -> Result<Outcome, Error>
-    ensures answer { result ≡ (after_run (env_of lists.entry) (answers unit.now) inputs.now lists.entry.expressions.now lists.entry.statements.now (length values.old) (length requests.old)).answer }
-    ensures written { values.new ≡ over (after_run (env_of lists.entry) (answers unit.now) inputs.now lists.entry.expressions.now lists.entry.statements.now (length values.old) (length requests.old)).values values.old }
-    ensures listed { requests.new ≡ over (after_run (env_of lists.entry) (answers unit.now) inputs.now lists.entry.expressions.now lists.entry.statements.now (length values.old) (length requests.old)).requests requests.old }
+    ensures answer { result ≡ (after_run (env_of lists.entry) (U.answers unit.now) inputs.now lists.entry.expressions.now lists.entry.statements.now (length values.old) (length requests.old)).answer }
+    ensures written { values.new ≡ over (after_run (env_of lists.entry) (U.answers unit.now) inputs.now lists.entry.expressions.now lists.entry.statements.now (length values.old) (length requests.old)).values values.old }
+    ensures listed { requests.new ≡ over (after_run (env_of lists.entry) (U.answers unit.now) inputs.now lists.entry.expressions.now lists.entry.statements.now (length values.old) (length requests.old)).requests requests.old }
 {
     let n = lists.expressions.len();
     if values.len() < n {

@@ -162,7 +162,7 @@ pub fn work_out<U: TextureUnit>(
     i: usize,
     e: Expression,
 ) -> Value
-    ensures { result ≡ worth (env_of lists.entry) (answers unit.now) (input_at inputs.now) (value_at (take i values.now)) e }
+    ensures { result ≡ worth (env_of lists.entry) (U.answers unit.now) (input_at inputs.now) (value_at (take i values.now)) e }
 {
     match e.tag {
         ExpressionTag::GlobalVariable => whole(
