@@ -16,7 +16,7 @@ use Rattle.records.specs.declared.expressions.Expression.{Expression}
 use Rattle.units.specs.declared.values.Components.{Components}
 use Rattle.units.specs.declared.values.Value.{Value}
 use Rattle.units.specs.declared.values.Value.TheVariants.{Number}
-use Rattle.units.specs.declared.requests.Level.TheVariants.{Exact, Bias, Gradient}
+use Rattle.units.specs.declared.requests.Level.TheVariants.{Exact, Bias}
 use Rattle.units.specs.declared.requests.Request.{Request}
 use Rattle.units.specs.Requests.{Answers}
 use Rattle.run.specs.declared.rules.Sight.{Sight}

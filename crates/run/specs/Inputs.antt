@@ -1,5 +1,5 @@
 -- Inputs: each Supplied record needs one of its type.
-use Rattle.std.specs.Prelude.{ℕ, Bool, cond, List, Some, None, Option}
+use Rattle.std.specs.Prelude.{ℕ, cond, List, Some, None, Option}
 use Rattle.std.specs.List.{slice_get}
 use Rattle.std.specs.Option.{option_map}
 use Rattle.records.specs.declared.types.TypeInner.{TypeInner}

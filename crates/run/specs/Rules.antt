@@ -1,5 +1,5 @@
 -- What each expression needs, and the type of what it comes to. Types only: no value is looked at.
-use Rattle.std.specs.Prelude.{ℕ, Bool, true, false, cond, not, ◌&&◌, ◌||◌, ltb, List, [], ◌∷◌, get_or, is_some, Some, None, Option, ◌==◌, nat_lt, slice_index_or}
+use Rattle.std.specs.Prelude.{ℕ, Bool, true, false, cond, not, ◌&&◌, ◌||◌, ltb, List, get_or, is_some, Some, None, Option, ◌==◌, nat_lt, slice_index_or}
 use Rattle.records.specs.declared.constants.Literal.{Literal}
 use Rattle.records.specs.declared.constants.Literal.TheVariants.{U32, I32, F32}
 use Rattle.records.specs.declared.handles.TypeHandle.{TypeHandle}
@@ -24,7 +24,7 @@ use Rattle.records.specs.declared.expressions.Expression.{Expression}
 use Rattle.run.specs.declared.rules.Sight.{Sight}
 use Rattle.run.specs.declared.rules.Sight.TheVariants.{Fine, Lacking, Outside}
 use Rattle.run.specs.Envs.{Env}
-use Rattle.run.specs.Types.{size_of, same_type, same_kind, on, when, is_integer, is_float, scalar_kind, count_in, kind_in, class_kind, part_type}
+use Rattle.run.specs.Types.{size_of, same_type, on, when, scalar_kind, class_kind, part_type}
 
 -- the types of the values worked out so far
 abbrev pub Known : Type 0

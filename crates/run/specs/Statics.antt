@@ -1,5 +1,5 @@
 -- The type of an expression from the records alone, along one path of bases: what the first pass goes by.
-use Rattle.std.specs.Prelude.{ℕ, zero, suc, Bool, cond, not, ◌&&◌, ◌||◌, List, is_some, Some, None, Option, nat_lt}
+use Rattle.std.specs.Prelude.{ℕ, zero, suc, cond, not, ◌&&◌, ◌||◌, List, is_some, Some, None, Option, nat_lt}
 use Rattle.std.specs.List.{slice_get}
 use Rattle.records.specs.declared.handles.TypeHandle.{TypeHandle}
 use Rattle.records.specs.declared.types.ScalarKind.TheVariants.{Sint, Float}

@@ -1,5 +1,5 @@
 -- Tests on types, and what an operation makes of the types of its operands.
-use Rattle.std.specs.Prelude.{ℕ, Bool, true, false, cond, not, ◌&&◌, ◌||◌, List, [], ◌∷◌, Some, None, Option, ◌==◌, nat_lt}
+use Rattle.std.specs.Prelude.{ℕ, Bool, true, false, cond, ◌&&◌, List, [], ◌∷◌, Some, None, Option, ◌==◌, nat_lt}
 use Rattle.records.specs.declared.types.ScalarKind.{ScalarKind}
 use Rattle.records.specs.declared.types.ScalarKind.TheVariants.{Sint, Uint, Float, Bool as BoolKind}
 use Rattle.records.specs.declared.types.VectorSize.{VectorSize}

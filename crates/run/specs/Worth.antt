@@ -1,16 +1,13 @@
 -- What each expression is worth, from the values of its operands: total, and right where its type was seen.
-use Rattle.std.specs.Prelude.{ℕ, ◌+◌, min, Bool, true, false, cond, List, [], ◌∷◌, get_or, ℤ, pos, negsuc, Some, None, Option, slice_index, slice_index_or, slice_set}
+use Rattle.std.specs.Prelude.{ℕ, ◌+◌, min, Bool, false, List, [], ◌∷◌, get_or, pos, Some, None, Option, slice_index, slice_index_or, slice_set}
 use Rattle.std.specs.Option.{option_map, unwrap_or}
 use Rattle.records.specs.declared.constants.Literal.{Literal}
 use Rattle.records.specs.declared.constants.Literal.TheVariants.{U32, I32, F32}
 use Rattle.records.specs.declared.handles.ExpressionHandle.{ExpressionHandle}
-use Rattle.records.specs.declared.types.ScalarKind.{ScalarKind}
-use Rattle.records.specs.declared.types.ScalarKind.TheVariants.{Float}
 use Rattle.records.specs.declared.types.VectorSize.{VectorSize}
 use Rattle.records.specs.declared.types.VectorSize.TheVariants.{Bi, Tri, Quad}
 use Rattle.records.specs.declared.types.ImageDimension.{ImageDimension}
 use Rattle.records.specs.declared.types.ImageDimension.TheVariants.{D1}
-use Rattle.records.specs.declared.types.ImageClass.{ImageClass}
 use Rattle.records.specs.declared.types.TypeInner.{TypeInner}
 use Rattle.records.specs.declared.types.TypeInner.TheVariants.{Scalar, Vector, Image, Sampler, BindingArray}
 use Rattle.records.specs.declared.expressions.SwizzleComponent.{SwizzleComponent}
@@ -28,17 +25,16 @@ use Rattle.units.specs.declared.values.Components.{Components}
 use Rattle.units.specs.declared.values.Root.{Root}
 use Rattle.units.specs.declared.values.Root.TheVariants.{Variable, Argument}
 use Rattle.units.specs.declared.values.Resource.{Resource}
-use Rattle.units.specs.declared.values.Reference.{Reference}
 use Rattle.units.specs.declared.values.Value.{Value}
 use Rattle.units.specs.declared.values.Value.TheVariants.{Number, Texture}
 use Rattle.units.specs.declared.requests.Sort.{Sort}
-use Rattle.units.specs.declared.requests.Sort.TheVariants.{Sample, Gather, Load, Store}
+use Rattle.units.specs.declared.requests.Sort.TheVariants.{Sample, Gather, Load}
 use Rattle.units.specs.declared.requests.Level.{Level}
 use Rattle.units.specs.declared.requests.Level.TheVariants.{Unstated, Auto, Zero, Bias, Exact, Gradient}
 use Rattle.units.specs.declared.requests.Request.{Request}
 use Rattle.units.specs.Arithmetic.{zero_float, sint_to_bits}
 use Rattle.units.specs.Requests.{Answers, clean}
-use Rattle.units.specs.Operations.{chosen, composed, divided, rounded, casted, first_sint, first_uint}
+use Rattle.units.specs.Operations.{chosen, composed, divided, rounded, casted}
 use Rattle.run.specs.Envs.{Env}
 use Rattle.run.specs.Types.{kind_in}
 use Rattle.run.specs.Rules.{is_depth, component_number}

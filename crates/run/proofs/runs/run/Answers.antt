@@ -1,4 +1,4 @@
-use Rattle.std.proofs.Common.{◌≡◌, sym, ap, ◌∙◌, arith}
+use Rattle.std.proofs.Common.{sym, ap, ◌∙◌, arith}
 use Rattle.run.specs.Ends.{After, after_stores, over}
 use Rattle.run.proofs.Whole.{after_run_is, done_values, done_requests}
 use Rattle.run.proofs.runs.run.Goals as goal

@@ -1,5 +1,5 @@
 use Rattle.std.proofs.Common.{arith}
-use Rattle.run.proofs.Storing.{listing_none, listing_store, listing_emit, listing_room, listing_all}
+use Rattle.run.proofs.Storing.{listing_store, listing_emit, listing_room, listing_all}
 use Rattle.run.proofs.stores.fill_stores.Goals as goal
 
 pub loop-j-preserved-in_default : goal.loop-j-preserved-in_default
