@@ -1,17 +1,17 @@
 -- Steps enough: a base lies below.
-use Rattle.std.proofs.Common.{◌≡◌, ℕ, zero, suc, ◌<◌, ◌≤◌, Bool, true, false, cond, ltb, List, Some, None, Ok, Err, Option, Result, sym, refl, ap, ◌∙◌, arith}
+use Rattle.std.proofs.Common.{◌≡◌, ℕ, zero, suc, ◌<◌, Bool, true, false, cond, ltb, Ok, Err, Result, refl, arith}
 use Rattle.std.specs.List.{slice_get}
 use Rattle.std.specs.Option.{ok_or}
-use Rattle.std.proofs.lemmas.Bool.{ltb-true, cond_below, cond_above}
+use Rattle.std.proofs.lemmas.Bool.{ltb-true}
 use Rattle.records.specs.declared.refusals.Error.{Error}
-use Rattle.records.specs.declared.refusals.Error.TheVariants.{InvalidImageExpression, Mismatch}
+use Rattle.records.specs.declared.refusals.Error.TheVariants.{Mismatch}
 use Rattle.records.specs.declared.handles.TypeHandle.{TypeHandle}
 use Rattle.records.specs.declared.expressions.Expression.{Expression}
 use Rattle.records.specs.declared.expressions.ExpressionTag.{ExpressionTag}
 use Rattle.records.specs.declared.expressions.ExpressionTag.TheVariants as tags
 use Rattle.words.specs.Instructions.{and_then}
 use Rattle.images.specs.Used.{Used}
-use Rattle.images.specs.Finds.{variable_type, argument_type, image_type_by, image_type_in, image_type}
+use Rattle.images.specs.Finds.{image_type_by, image_type_in, image_type}
 
 abbrev Below : Type 0
 Below = ℕ → Result TypeHandle Error

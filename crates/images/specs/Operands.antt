@@ -1,5 +1,5 @@
 -- The operands after a mask: looked up, and held to their types.
-use Rattle.std.specs.Prelude.{ℕ, Bool, cond, not, length, Some, None, Ok, Err, Option, Result}
+use Rattle.std.specs.Prelude.{Bool, cond, not, length, Some, None, Ok, Option, Result}
 use Rattle.std.specs.Option.{option_map}
 use Rattle.records.specs.declared.handles.ExpressionHandle.{ExpressionHandle}
 use Rattle.records.specs.declared.refusals.Error.{Error}

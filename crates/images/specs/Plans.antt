@@ -1,6 +1,6 @@
 -- Reading one instruction: the checks in the order of their refusals, and what they find. A refusal blames the place of a
 -- word. `u` has the used parts of the lists, `b` the books.
-use Rattle.std.specs.Prelude.{ℕ, Bool, true, false, cond, not, ◌&&◌, ◌||◌, Some, None, Ok, Err, Option, Result, ◌==◌}
+use Rattle.std.specs.Prelude.{ℕ, Bool, true, false, cond, not, ◌&&◌, ◌||◌, Some, None, Ok, Option, Result, ◌==◌}
 use Rattle.std.specs.Option.{ok_or, option_map}
 use Rattle.records.specs.Expressions.{no_type}
 use Rattle.records.specs.declared.expressions.SampleLevel.{SampleLevel}

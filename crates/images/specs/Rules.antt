@@ -1,7 +1,6 @@
 -- SPIR-V's rules on images: what each opcode does, which images it may use, and of which types its operands are.
 use Rattle.std.specs.Prelude.{ℕ, ◌+◌, Bool, true, false, cond, not, ◌&&◌, ◌||◌, Some, None, Option, nat_le}
 use Rattle.records.specs.declared.handles.TypeHandle.{TypeHandle}
-use Rattle.records.specs.declared.types.ScalarKind.{ScalarKind}
 use Rattle.records.specs.declared.types.ScalarKind.TheVariants.{Float}
 use Rattle.records.specs.declared.types.VectorSize.{VectorSize}
 use Rattle.records.specs.declared.types.VectorSize.TheVariants.{Bi, Tri, Quad}

@@ -1,5 +1,5 @@
 -- The search for the first equal type.
-use Rattle.std.proofs.Common.{◌≡◌, ℕ, zero, suc, ◌+◌, ◌<◌, ◌≤◌, Bool, true, false, cond, List, [], ◌∷◌, length, get_or, drop, Some, None, Option, sym, refl, ap, ◌∙◌, arith, drop_of_length-le, drop-cons}
+use Rattle.std.proofs.Common.{◌≡◌, ℕ, suc, ◌+◌, ◌<◌, ◌≤◌, true, false, cond, List, length, get_or, drop, Some, None, Option, sym, ap, ◌∙◌, arith, drop_of_length-le, drop-cons}
 use Rattle.records.specs.declared.types.TypeInner.{TypeInner}
 use Rattle.run.specs.Types.{same_type}
 use Rattle.memory.specs.Firsts.{first_from}

@@ -1,4 +1,4 @@
-use Rattle.std.proofs.Common.{◌≡◌, sym, ◌∙◌, rules}
+use Rattle.std.proofs.Common.{sym, ◌∙◌, rules}
 use Rattle.images.specs.Used.{used_of}
 use Rattle.images.proofs.Fuel.{image_type_is}
 use Rattle.images.proofs.find.+get_image_expr_ty.Goals as goal
