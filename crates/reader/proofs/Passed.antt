@@ -1,9 +1,9 @@
 -- What is known where checks have passed.
-use Rattle.std.proofs.Common.{◌≡◌, ℕ, ◌+◌, ◌<◌, ◌≤◌, min, Bool, true, false, cond, not, ◌&&◌, ◌||◌, eqb, leb, length, is_ok, Some, None, Ok, Err, Option, Result, sym, refl, ap, ◌∙◌, arith}
+use Rattle.std.proofs.Common.{◌≡◌, ℕ, ◌+◌, ◌≤◌, min, Bool, true, false, cond, not, ◌&&◌, eqb, length, is_ok, Some, None, Ok, Err, Option, Result, sym, refl, ap, ◌∙◌, arith}
 use Rattle.std.specs.Option.{ok_or}
 use Rattle.std.proofs.lemmas.Bool.{false≢true, leb-true}
 use Rattle.records.specs.declared.refusals.Error.{Error}
-use Rattle.books.specs.Books.{Book, taken, count, answer, Puts}
+use Rattle.books.specs.Books.{Book, taken, count, Puts}
 use Rattle.words.specs.Instructions.{and_then, check}
 use Rattle.memory.specs.Cells.{Filled, room_for}
 use Rattle.memory.specs.Lookups.{has_space}

@@ -1,8 +1,8 @@
 -- What is known where all checks of an instruction have passed: there is room for every record, and a new id is new.
-use Rattle.std.proofs.Common.{◌≡◌, ℕ, ◌+◌, ◌≤◌, Bool, true, false, not, ◌&&◌, List, length, Ok, Err, Option, Result, sym, refl, ap, ◌∙◌, subst}
+use Rattle.std.proofs.Common.{◌≡◌, ℕ, ◌+◌, ◌≤◌, true, not, ◌&&◌, List, length, Ok, Option, sym, ap, ◌∙◌, subst}
 use Rattle.records.specs.declared.refusals.Error.TheVariants.{InvalidResultId, Full, Mismatch}
 use Rattle.books.specs.Books.{taken}
-use Rattle.words.specs.Instructions.{and_then, check, instruction}
+use Rattle.words.specs.Instructions.{check, instruction}
 use Rattle.words.specs.Opcodes.{row_of}
 use Rattle.words.specs.declared.instructions.Instruction.{Instruction}
 use Rattle.words.specs.declared.opcodes.OperandRule.{OperandRule}

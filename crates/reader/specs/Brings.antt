@@ -1,5 +1,5 @@
 -- Bringing values, while reading: what each call checks, in order, and what it leaves and answers.
-use Rattle.std.specs.Prelude.{ℕ, Bool, true, not, List, length, Some, None, Ok, Err, Option, Result}
+use Rattle.std.specs.Prelude.{ℕ, true, not, List, length, Some, None, Ok, Option, Result}
 use Rattle.std.specs.List.{slice_get}
 use Rattle.std.specs.Option.{ok_or}
 use Rattle.records.specs.Expressions.{supplied, access}

@@ -1,8 +1,7 @@
 -- The calls of a reader at rest: what each checks, in order, and what it leaves and answers.
-use Rattle.std.specs.Prelude.{ℕ, Bool, true, not, ◌&&◌, List, Some, None, Ok, Err, Option, Result}
+use Rattle.std.specs.Prelude.{ℕ, Bool, true, not, ◌&&◌, List, Some, None, Ok, Option, Result}
 use Rattle.records.specs.Expressions.{global_variable, function_argument, constant_of}
 use Rattle.records.specs.declared.constants.Literal.{Literal}
-use Rattle.records.specs.declared.expressions.Expression.{Expression}
 use Rattle.records.specs.declared.handles.TypeHandle.{TypeHandle}
 use Rattle.records.specs.declared.lookups.LookupExpression.{LookupExpression}
 use Rattle.records.specs.declared.refusals.Error.{Error}

@@ -1,11 +1,9 @@
 -- Reading one instruction: its words, its checks in order, and what it leaves and answers.
-use Rattle.std.specs.Prelude.{ℕ, ◌+◌, Bool, cond, not, ◌&&◌, List, Some, None, Ok, Err, Option, Result, nat_lt, slice_index_or, slice_set}
+use Rattle.std.specs.Prelude.{ℕ, ◌+◌, Bool, not, ◌&&◌, List, Some, None, Ok, Option, Result, nat_lt, slice_index_or, slice_set}
 use Rattle.records.specs.Expressions.{no_type}
 use Rattle.records.specs.Flags.{inserted}
 use Rattle.records.specs.declared.expressions.Expression.{Expression}
-use Rattle.records.specs.declared.handles.TypeHandle.{TypeHandle}
 use Rattle.records.specs.declared.lookups.LookupExpression.{LookupExpression}
-use Rattle.records.specs.declared.lookups.LookupSampledImage.{LookupSampledImage}
 use Rattle.records.specs.declared.refusals.Error.{Error}
 use Rattle.records.specs.declared.refusals.Error.TheVariants.{Full, Mismatch}
 use Rattle.records.specs.declared.statements.Statement.{Statement}
@@ -16,7 +14,7 @@ use Rattle.records.specs.declared.variables.FunctionArgument.{FunctionArgument}
 use Rattle.units.specs.declared.values.Root.{Root}
 use Rattle.units.specs.declared.values.Root.TheVariants.{Variable, Argument}
 use Rattle.words.specs.Instructions.{and_then, check, instruction}
-use Rattle.memory.specs.Cells.{Filled, room_for, Cells}
+use Rattle.memory.specs.Cells.{room_for, Cells}
 use Rattle.memory.specs.Lookups.{has_space}
 use Rattle.memory.specs.Shelves.{Shelf}
 use Rattle.images.specs.Plans.{plan_for}

@@ -1,7 +1,6 @@
 -- Declaring types: which may be declared, and the search for an equal one.
-use Rattle.std.specs.Prelude.{ℕ, Bool, true, false, cond, not, List, Some, None, Ok, Err, Option, Result, ◌==◌}
+use Rattle.std.specs.Prelude.{ℕ, Bool, true, false, cond, not, List, Some, None, Ok, Option, Result, ◌==◌}
 use Rattle.std.specs.Option.{ok_or}
-use Rattle.records.specs.declared.constants.Literal.{Literal}
 use Rattle.records.specs.declared.refusals.Error.{Error}
 use Rattle.records.specs.declared.refusals.Error.TheVariants.{InvalidType}
 use Rattle.records.specs.declared.types.ScalarKind.{ScalarKind}

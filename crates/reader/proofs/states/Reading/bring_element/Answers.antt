@@ -2,10 +2,10 @@ use Rattle.std.proofs.Common.{true, length, Some, sym, arith}
 use Rattle.memory.specs.Shelves.{Shelf, shelf_of}
 use Rattle.memory.specs.Cells.{Cells, used, cells_of}
 use Rattle.reader.specs.Brings.{element_for}
-use Rattle.reader.proofs.Declared.{ValueReady, value_ready, brought_inside}
+use Rattle.reader.proofs.Declared.{ValueReady, value_ready}
 use Rattle.reader.proofs.states.Reading.bring_element.Given as given
 use Rattle.reader.proofs.states.Reading.bring_element.Goals as goal
-use Rattle.reader.proofs.states.Reading.bring_element.Goals.{In-Ok, at·append_value-lookup-requires}
+use Rattle.reader.proofs.states.Reading.bring_element.Goals.{In-Ok}
 
 abbrev cells : (g : given.Over) (c : In-Ok g) → Cells
 cells g c = cells_of c.args.self.counts c.args.lists.now
@@ -19,5 +19,5 @@ ready g c = value_ready (Some c.args.self.emitter.start_len) (cells g c) (books 
 
 pub append_value-lookup-requires : goal.append_value-lookup-requires
 append_value-lookup-requires g c =
-    let r = ready g (at·append_value-lookup-requires g c).In-Ok in
+    let r = ready g (goal.at.append_value-lookup-requires g c).In-Ok in
     record { room = let h = r.room in omega arith; new = r.new; space = r.space }
