@@ -1,5 +1,7 @@
 -- Types by numbers: two types are equal exactly if their numbers are.
-use Rattle.std.specs.Prelude.{ℕ, Bool, true, false, List, [], ◌∷◌}
+use Rattle.std.specs.Prelude.{◌≡◌, ℕ, Bool, true, false, List, [], ◌∷◌, ◌==◌, Decides}
+use Rattle.std.specs.Cmp.Lexicographic.{pointwise}
+use Rattle.std.specs.Ordering.{on}
 use Rattle.records.specs.declared.types.ScalarKind.{ScalarKind}
 use Rattle.records.specs.declared.types.ScalarKind.TheVariants.{Sint, Uint, Float, Bool as BoolKind}
 use Rattle.records.specs.declared.types.VectorSize.{VectorSize}
@@ -43,3 +45,11 @@ type_numbers (Vector size kind) = 1 ∷ size_number size ∷ kind_number kind �
 type_numbers (Image dim arrayed class) = 2 ∷ dimension_number dim ∷ flag_number arrayed ∷ class_numbers class
 type_numbers Sampler = 3 ∷ []
 type_numbers (BindingArray base) = 4 ∷ base.index ∷ []
+
+-- Laws: the numbers decide whether two classes, or two types, are one value.
+
+abbrev pub ClassesDecided : Type 0
+ClassesDecided = (x y : ImageClass) → Decides (on class_numbers (pointwise ◌==◌) x y) (x ≡ y)
+
+abbrev pub TypesDecided : Type 0
+TypesDecided = (x y : TypeInner) → Decides (on type_numbers (pointwise ◌==◌) x y) (x ≡ y)

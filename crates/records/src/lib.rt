@@ -4,6 +4,7 @@
 mod constants;
 mod expressions;
 mod handles;
+mod laws;
 mod limits;
 mod lookups;
 mod refusals;
@@ -16,6 +17,7 @@ pub use expressions::{Expression, ExpressionTag, ImageParts, SampleLevel, Swizzl
 pub use handles::{
     ConstantHandle, ExpressionHandle, FunctionArgumentHandle, GlobalVariableHandle, TypeHandle,
 };
+pub use laws::laws_stand;
 pub use limits::{
     MAX_ARGUMENTS, MAX_CONSTANTS, MAX_EXPRESSIONS, MAX_STATEMENTS, MAX_TYPES, MAX_VARIABLES,
 };

@@ -1,0 +1,6 @@
+use Rattle.std.proofs.Common.{refl}
+use Rattle.records.proofs.TypeNumbers.{classes_decided, types_decided}
+use Rattle.records.proofs.laws.laws_stand.Goals as goal
+
+pub returns : goal.returns
+returns c = record { classes = classes_decided; types = types_decided; value = refl }
