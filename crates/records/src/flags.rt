@@ -10,7 +10,9 @@ pub struct SamplingFlags {
 
 impl SamplingFlags {
     pub const EMPTY: SamplingFlags = SamplingFlags { bits: 0 };
+
     pub const REGULAR: SamplingFlags = SamplingFlags { bits: 1 };
+
     pub const COMPARISON: SamplingFlags = SamplingFlags { bits: 2 };
 
     // Whether all bits of a flag stand.

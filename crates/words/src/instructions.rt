@@ -159,7 +159,10 @@ fn check_mask(opcode: Opcode, mask: u32, operands: &[u32]) -> Result<(), Error>
     let rule = opcode.row().rule;
     let place = opcode.mask_place();
     expect(rule.supports(mask), Error::UnsupportedOperand(place))?;
-    expect(operands.len() == mask_words(mask), Error::InvalidOperandCount)?;
+    expect(
+        operands.len() == mask_words(mask),
+        Error::InvalidOperandCount,
+    )?;
     expect(rule.allows(mask), Error::InvalidOperand(place))
 }
 
