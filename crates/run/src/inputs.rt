@@ -1,7 +1,8 @@
 // Inputs: whether each Supplied record has one of its type.
 ghost use Rattle.std.specs.Prelude.{◌≡◌};
+ghost use Rattle.run.specs.Checks.{inputs_halt};
 ghost use Rattle.run.specs.Envs.{env_of};
-ghost use Rattle.run.specs.Inputs.{input_type, input_halt, halting_inputs};
+ghost use Rattle.run.specs.Inputs.{input_type, input_halt};
 ghost use Rattle.run.specs.Runs.{or_halt};
 
 use crate::lists::Lists;
@@ -34,7 +35,7 @@ impl Lists<'_> {
 
     // The first record whose input is missing or of another type decides.
     pub fn check_inputs(self, inputs: &[Components]) -> Result<(), Halt>
-        ensures { result ≡ or_halt (halting_inputs (env_of self.entry) inputs.now self.entry.expressions.now) }
+        ensures { result ≡ or_halt (inputs_halt self.entry inputs.now) }
     {
         for e in self.expressions {
             self.check_input(inputs, *e)?;

@@ -1,8 +1,8 @@
 // The two passes over the expressions: the first finds where a run would halt, the second works out the values.
 ghost use Rattle.std.specs.Prelude.{◌≡◌, ◌≤◌, [], ◌++◌, length, drop};
+ghost use Rattle.run.specs.Checks.{expressions_halt};
 ghost use Rattle.run.specs.Envs.{env_of};
-ghost use Rattle.run.specs.Runs.{halt_by, or_halt, halting, worked, input_at};
-ghost use Rattle.run.specs.Statics.{known_before};
+ghost use Rattle.run.specs.Runs.{halt_by, or_halt, worked, input_at};
 ghost use Rattle.run.specs.Worth.{worth};
 
 use crate::before::Before;
@@ -39,7 +39,7 @@ impl Miss {
 impl Lists<'_> {
     // The first pass: the first expression that has no type decides. Nothing is written.
     pub fn check_expressions(self) -> Result<(), Halt>
-        ensures { result ≡ or_halt (halting (env_of self.entry) (known_before (env_of self.entry) self.entry.expressions.now) 0 self.entry.expressions.now) }
+        ensures { result ≡ or_halt (expressions_halt self.entry) }
     {
         for (i, e) in self.expressions.iter().enumerate() {
             if let Err(miss) = (Before { lists: self, i }).see(*e) {
