@@ -3,7 +3,7 @@ ghost use Rattle.std.specs.Prelude.{◌≡◌, Bool};
 ghost use Rattle.run.specs.Rules.{is_of, is_int, of_first, texture_type, number_type, splat_type, has_pattern, swizzle_type, cast_type, place_type};
 ghost use Rattle.records.specs.declared.types.TypeInner.TheVariants.{Scalar};
 
-use crate::types::scalar_kind;
+use crate::types::{SINT, scalar_kind};
 use records::{ImageDimension, ScalarKind, SwizzleComponent, TypeInner, VectorSize};
 
 // Why an expression has no type.
@@ -18,13 +18,16 @@ pub enum Miss {
 pub fn is_of(ty: Option<TypeInner>, wanted: TypeInner) -> bool
     ensures { result ≡ is_of ty wanted }
 {
-    ty.is_some_and(|ty| ty == wanted)
+    ty == Some(wanted)
 }
 
 pub fn is_integer_scalar(ty: Option<TypeInner>) -> bool
     ensures { result ≡ is_int ty Scalar }
 {
-    is_of(ty, TypeInner::Scalar(ScalarKind::Sint)) || is_of(ty, TypeInner::Scalar(ScalarKind::Uint))
+    matches!(
+        ty,
+        Some(TypeInner::Scalar(ScalarKind::Sint | ScalarKind::Uint))
+    )
 }
 
 // The type of a place in an image of a dimension.
@@ -105,9 +108,7 @@ pub fn cast_type(ty: TypeInner) -> Option<TypeInner>
     ensures { result ≡ cast_type ty }
 {
     match ty {
-        TypeInner::Scalar(ScalarKind::Sint | ScalarKind::Uint | ScalarKind::Float) => {
-            Some(TypeInner::Scalar(ScalarKind::Sint))
-        }
+        TypeInner::Scalar(ScalarKind::Sint | ScalarKind::Uint | ScalarKind::Float) => { Some(SINT) }
         _ => None,
     }
 }
