@@ -7,7 +7,6 @@ ghost use Rattle.run.specs.Runs.{or_halt};
 
 use crate::lists::Lists;
 use crate::passes::Halt;
-use crate::rules::is_of;
 use records::{Expression, ExpressionTag, TypeInner};
 use units::{Components, Value};
 
@@ -26,7 +25,7 @@ impl Lists<'_> {
             return Ok(());
         };
         let ty = self.type_at(e.ty).ok_or(Halt::Outside)?;
-        if is_of(input_type(inputs, e.index), ty) {
+        if input_type(inputs, e.index) == Some(ty) {
             Ok(())
         } else {
             Err(Halt::WrongInput)

@@ -60,7 +60,7 @@ pub(crate) fn fill_values<U: TextureUnit>(
     requires { length lists.expressions.now ≤ length values.old }
     ensures { values.new ≡ worked (worth (env_of lists.entry) (U.answers unit.now) (input_at inputs.now)) [] lists.entry.expressions.now ++ drop (length lists.entry.expressions.now) values.old }
 {
-    for i in 0..lists.expressions.len() {
-        values[i] = work_out(lists, unit, inputs, &values[..i], lists.expressions[i]);
+    for (i, e) in lists.expressions.iter().enumerate() {
+        values[i] = work_out(lists, unit, inputs, &values[..i], *e);
     }
 }

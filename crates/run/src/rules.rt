@@ -1,6 +1,6 @@
 // What each expression needs, and the type of what it comes to. No value is looked at.
 ghost use Rattle.std.specs.Prelude.{◌≡◌, Bool};
-ghost use Rattle.run.specs.Rules.{is_of, is_int, of_first, texture_type, number_type, splat_type, has_pattern, swizzle_type, cast_type, place_type};
+ghost use Rattle.run.specs.Rules.{is_int, of_first, texture_type, number_type, splat_type, has_pattern, swizzle_type, cast_type, place_type};
 ghost use Rattle.records.specs.declared.types.TypeInner.TheVariants.{Scalar};
 
 use crate::types::{SINT, scalar_kind};
@@ -13,12 +13,6 @@ pub enum Miss {
     Lacking,
     // it names a number outside the used lists
     Outside,
-}
-
-pub fn is_of(ty: Option<TypeInner>, wanted: TypeInner) -> bool
-    ensures { result ≡ is_of ty wanted }
-{
-    ty == Some(wanted)
 }
 
 pub fn is_integer_scalar(ty: Option<TypeInner>) -> bool
@@ -45,7 +39,7 @@ pub fn place_type(dim: ImageDimension, kind: ScalarKind) -> TypeInner
 pub fn is_integer_place(ty: Option<TypeInner>, dim: ImageDimension) -> bool
     ensures { result ≡ is_int ty (place_type dim) }
 {
-    is_of(ty, place_type(dim, ScalarKind::Sint)) || is_of(ty, place_type(dim, ScalarKind::Uint))
+    ty == Some(place_type(dim, ScalarKind::Sint)) || ty == Some(place_type(dim, ScalarKind::Uint))
 }
 
 pub fn texture_type(ty: TypeInner) -> Option<TypeInner>
