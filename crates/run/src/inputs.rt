@@ -5,6 +5,7 @@ ghost use Rattle.run.specs.Envs.{env_of};
 ghost use Rattle.run.specs.Inputs.{input_type, input_halt};
 ghost use Rattle.run.specs.Runs.{or_halt};
 
+use crate::checks::check_each;
 use crate::lists::Lists;
 use crate::passes::Halt;
 use records::{Expression, ExpressionTag, TypeInner};
@@ -36,9 +37,6 @@ impl Lists<'_> {
     pub fn check_inputs(self, inputs: &[Components]) -> Result<(), Halt>
         ensures { result ≡ or_halt (inputs_halt self.entry inputs.now) }
     {
-        for e in self.expressions {
-            self.check_input(inputs, *e)?;
-        }
-        Ok(())
+        check_each(self.expressions, |_, e| self.check_input(inputs, e))
     }
 }

@@ -7,6 +7,7 @@ ghost use Rattle.run.specs.Statics.{known_by};
 ghost use Rattle.run.specs.Stores.{store_fits, store_halt, store_request_of, stores, store_count};
 
 use crate::before::Before;
+use crate::checks::check_each;
 use crate::lists::Lists;
 use crate::passes::Halt;
 use crate::requests::{components_at, image_request};
@@ -80,10 +81,10 @@ impl Lists<'_> {
     pub fn check_stores(self) -> Result<(), Halt>
         ensures { result ≡ or_halt (stores_halt self.entry) }
     {
-        for (j, statement) in self.statements.iter().enumerate() {
-            self.check_store(j, *statement)?;
-        }
-        Ok(())
+        check_each(
+            self.statements,
+            |j, statement| self.check_store(j, statement),
+        )
     }
 }
 
