@@ -45,18 +45,15 @@ mapped x y f w xs = fill y w (f (slice_index_or xs 0 x) ∷ f (slice_index_or xs
 
 abbrev pub rounded_of : Width → Lanes → Lanes
 rounded_of w (lanes.Float xs) = lanes.Float (mapped zero_float zero_float nearest w xs)
-rounded_of w (lanes.Sint xs) = lanes.Sint xs
-rounded_of w (lanes.Uint xs) = lanes.Uint xs
-rounded_of w (lanes.Bool xs) = lanes.Bool xs
+rounded_of w l = l
 
 abbrev pub rounded : Components → Components
 rounded c = record { width = c.width; lanes = rounded_of c.width c.lanes }
 
 abbrev pub casted_of : Width → Lanes → Lanes
 casted_of w (lanes.Float xs) = lanes.Sint (mapped zero_float (pos 0) to_sint w xs)
-casted_of w (lanes.Sint xs) = lanes.Sint xs
 casted_of w (lanes.Uint xs) = lanes.Sint (mapped 0 (pos 0) bits_to_sint w xs)
-casted_of w (lanes.Bool xs) = lanes.Bool xs
+casted_of w l = l
 
 abbrev pub casted : Components → Components
 casted c = record { width = c.width; lanes = casted_of c.width c.lanes }
