@@ -122,19 +122,13 @@ module _ (vs us : List Value) where
 
   sample_of : (e : Expression) (t u : TypeInner) → option_is_some (types_of vs e.base.index) ≡ true → Of t (sample_type (types_of vs) e u)
       → sample_request (value_at (vs ++ us)) e ≡ sample_request (value_at vs) e
-  sample_of e t (Scalar k) some h = absurd h
-  sample_of e t (Vector s k) some h = absurd h
   sample_of e t (Image d a c) some h = sample_again e d a some (of_test _ _ t h).0
-  sample_of e t Sampler some h = absurd h
-  sample_of e t (BindingArray b) some h = absurd h
+  sample_of e t _ some h = absurd h
 
   load_of : (e : Expression) (t u : TypeInner) → option_is_some (types_of vs e.base.index) ≡ true → Of t (load_type (types_of vs) e u)
       → load_request (value_at (vs ++ us)) e ≡ load_request (value_at vs) e
-  load_of e t (Scalar k) some h = absurd h
-  load_of e t (Vector s k) some h = absurd h
   load_of e t (Image d a c) some h = load_again e d a some (of_test _ _ t h).0
-  load_of e t Sampler some h = absurd h
-  load_of e t (BindingArray b) some h = absurd h
+  load_of e t _ some h = absurd h
 
   tag_again : (env : Env) (e : Expression) (t : TypeInner) (tag : ExpressionTag)
       → Of t (otherwise (leaf_rule env (types_of vs) e tag) (known (types_of vs e.base.index) (λ b. made_of env (types_of vs) e b tag)))
@@ -163,20 +157,9 @@ module _ (vs us : List Value) where
 -- an expression that makes a request is worth the answer to it
 answer_there : (env : Env) (answers : Answers) (ins : ℕ → Components) (at : Values) (e : Expression) (q : Request) (tag : ExpressionTag)
     → request_tag at e tag ≡ Some q → worth_tag env answers ins at e tag ≡ Number (answers q)
-answer_there env answers ins at e q GlobalVariable is = absurd (false≢true (ap option_is_some is))
-answer_there env answers ins at e q FunctionArgument is = absurd (false≢true (ap option_is_some is))
-answer_there env answers ins at e q Constant is = absurd (false≢true (ap option_is_some is))
-answer_there env answers ins at e q Supplied is = absurd (false≢true (ap option_is_some is))
-answer_there env answers ins at e q Access is = absurd (false≢true (ap option_is_some is))
-answer_there env answers ins at e q AccessIndex is = absurd (false≢true (ap option_is_some is))
-answer_there env answers ins at e q Compose is = absurd (false≢true (ap option_is_some is))
-answer_there env answers ins at e q Splat is = absurd (false≢true (ap option_is_some is))
-answer_there env answers ins at e q Swizzle is = absurd (false≢true (ap option_is_some is))
-answer_there env answers ins at e q Divide is = absurd (false≢true (ap option_is_some is))
-answer_there env answers ins at e q Round is = absurd (false≢true (ap option_is_some is))
-answer_there env answers ins at e q As is = absurd (false≢true (ap option_is_some is))
 answer_there env answers ins at e q ImageSample is = ap (λ o. Number (answers (unwrap_or o q))) is
 answer_there env answers ins at e q ImageLoad is = ap (λ o. Number (answers (unwrap_or o q))) is
+answer_there env answers ins at e q _ is = absurd (false≢true (ap option_is_some is))
 
 -- the values of a run, from those before its first expression and one of these: the request of that one stays
 module _ (env : Env) (w : Values → Expression → Value) (e : Expression) (es : List Expression) (vs us : List Value) (is : run_over env w vs (e ∷ es) ≡ Progress.Went us) where
