@@ -7,11 +7,11 @@ use Rattle.records.specs.declared.types.ScalarKind.{ScalarKind}
 use Rattle.records.specs.declared.types.ScalarKind.TheVariants.{Sint, Float}
 use Rattle.records.specs.declared.types.ImageDimension.{ImageDimension}
 use Rattle.records.specs.declared.types.TypeInner.{TypeInner}
-use Rattle.records.specs.declared.types.TypeInner.TheVariants.{Scalar, Vector, Image, Sampler, BindingArray}
+use Rattle.records.specs.declared.types.TypeInner.TheVariants.{Scalar, Image, Sampler}
 use Rattle.records.specs.declared.expressions.SampleLevel.{SampleLevel}
 use Rattle.records.specs.declared.expressions.SampleLevel.TheVariants as sampling
 use Rattle.records.specs.declared.expressions.ExpressionTag.{ExpressionTag}
-use Rattle.records.specs.declared.expressions.ExpressionTag.TheVariants.{GlobalVariable, FunctionArgument, Constant, Supplied, Access, AccessIndex, Compose, Splat, Swizzle, Divide, Round, As, ImageSample, ImageLoad}
+use Rattle.records.specs.declared.expressions.ExpressionTag.TheVariants.{ImageSample, ImageLoad}
 use Rattle.records.specs.declared.expressions.Expression.{Expression}
 use Rattle.units.specs.declared.values.Components.{Components}
 use Rattle.units.specs.declared.values.Value.{Value}
@@ -133,22 +133,11 @@ module _ (vs us : List Value) where
   tag_again : (env : Env) (e : Expression) (t : TypeInner) (tag : ExpressionTag)
       → Of t (otherwise (leaf_rule env (types_of vs) e tag) (known (types_of vs e.base.index) (λ b. made_of env (types_of vs) e b tag)))
       → request_tag (value_at (vs ++ us)) e tag ≡ request_tag (value_at vs) e tag
-  tag_again env e t GlobalVariable h = refl
-  tag_again env e t FunctionArgument h = refl
-  tag_again env e t Constant h = refl
-  tag_again env e t Supplied h = refl
-  tag_again env e t Access h = refl
-  tag_again env e t AccessIndex h = refl
-  tag_again env e t Compose h = refl
-  tag_again env e t Splat h = refl
-  tag_again env e t Swizzle h = refl
-  tag_again env e t Divide h = refl
-  tag_again env e t Round h = refl
-  tag_again env e t As h = refl
   tag_again env e t ImageSample h =
       ap Some (sample_of e t _ (known_some (types_of vs e.base.index) _ t h) (of_known vs e.base.index (sample_type (types_of vs) e) t h))
   tag_again env e t ImageLoad h =
       ap Some (load_of e t _ (known_some (types_of vs e.base.index) _ t h) (of_known vs e.base.index (load_type (types_of vs) e) t h))
+  tag_again env e t _ h = refl
 
   -- of an expression that was fine by the values before it
   pub request_again : (env : Env) (e : Expression) (t : TypeInner) → seen env (types_of vs) e ≡ Ok t → request_of (value_at (vs ++ us)) e ≡ request_of (value_at vs) e

@@ -6,11 +6,11 @@ use Rattle.records.specs.declared.handles.TypeHandle.{TypeHandle}
 use Rattle.records.specs.declared.handles.ExpressionHandle.{ExpressionHandle}
 use Rattle.records.specs.declared.types.VectorSize.{VectorSize}
 use Rattle.records.specs.declared.types.TypeInner.{TypeInner}
-use Rattle.records.specs.declared.types.TypeInner.TheVariants.{Scalar, Vector, Image, Sampler, BindingArray}
+use Rattle.records.specs.declared.types.TypeInner.TheVariants.{Scalar, Sampler, BindingArray}
 use Rattle.records.specs.declared.expressions.SampleLevel.{SampleLevel}
-use Rattle.records.specs.declared.expressions.SampleLevel.TheVariants.{Auto, Zero, Exact, Bias, Gradient}
+use Rattle.records.specs.declared.expressions.SampleLevel.TheVariants.{Exact, Bias, Gradient}
 use Rattle.records.specs.declared.expressions.ExpressionTag.{ExpressionTag}
-use Rattle.records.specs.declared.expressions.ExpressionTag.TheVariants.{GlobalVariable, FunctionArgument, Constant, Supplied, Access, AccessIndex, Compose, Splat, Swizzle, Divide, Round, As, ImageSample, ImageLoad}
+use Rattle.records.specs.declared.expressions.ExpressionTag.TheVariants.{GlobalVariable, FunctionArgument, Constant, Supplied, Access, Compose, Divide, ImageSample, ImageLoad}
 use Rattle.records.specs.declared.expressions.Expression.{Expression}
 use Rattle.units.specs.declared.values.Components.{Components}
 use Rattle.units.specs.declared.values.Root.TheVariants.{Variable, Argument}
@@ -197,21 +197,12 @@ module _ (env env' : Env) (grows : Grows env env') where
     tag_same vs e t FunctionArgument h = ap (whole (Argument e.argument)) (type_by_same _ _ t (grows.arguments e.argument.index) h)
     tag_same vs e t Constant h =
         ap (λ o. Number (unwrap_or (option_map literal_components o) no_components)) (listed_same _ _ _ t (grows.constants e.constant.index) h)
-    tag_same vs e t Supplied h = refl
     tag_same vs e t Access h =
         let base = value_at vs e.base.index in
         element_same base (value_at vs e.other.index)
         (element_type_same base _ t
         (of_known vs e.other.index (element env (type_of base)) t (of_known vs e.base.index (λ u. made_of env (types_of vs) e u Access) t h)))
-    tag_same vs e t AccessIndex h = refl
-    tag_same vs e t Compose h = refl
-    tag_same vs e t Splat h = refl
-    tag_same vs e t Swizzle h = refl
-    tag_same vs e t Divide h = refl
-    tag_same vs e t Round h = refl
-    tag_same vs e t As h = refl
-    tag_same vs e t ImageSample h = refl
-    tag_same vs e t ImageLoad h = refl
+    tag_same vs e t _ h = refl
 
     -- where a type is seen
     pub worth_grows : (vs : List Value) (e : Expression) (t : TypeInner) → seen env (types_of vs) e ≡ Ok t

@@ -84,11 +84,8 @@ of_guard false s o g = of_lacking o
 
 of_element : (env : Env) (base : TypeInner) (i : Option TypeInner) → Gives (known i (element env base)) (element_type env base)
 of_element env base None = of_lacking _
-of_element env (Scalar k) (Some i) = of_lacking _
-of_element env (Vector s k) (Some i) = of_lacking _
-of_element env (Image d a c) (Some i) = of_lacking _
-of_element env Sampler (Some i) = of_lacking _
 of_element env (BindingArray b) (Some i) = of_guard _ _ _ (of_texture (env.types b.index))
+of_element env _ (Some i) = of_lacking _
 
 of_part : (e : Expression) (base : TypeInner) → Gives (fine (part_type e.index base)) (Some (Scalar (kind_in base)))
 of_part e (Vector s k) = of_when _ (Scalar k)

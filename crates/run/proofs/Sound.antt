@@ -233,21 +233,14 @@ cast_of (Texture r) t h = absurd (no_handle (λ u. fine (cast_type u)) r.ty t (�
 
 same_size : (a b : VectorSize) → eqb (size_of a) (size_of b) ≡ true → b ≡ a
 same_size Bi Bi h = refl
-same_size Bi Tri h = absurd (false≢true h)
-same_size Bi Quad h = absurd (false≢true h)
-same_size Tri Bi h = absurd (false≢true h)
 same_size Tri Tri h = refl
-same_size Tri Quad h = absurd (false≢true h)
-same_size Quad Bi h = absurd (false≢true h)
-same_size Quad Tri h = absurd (false≢true h)
 same_size Quad Quad h = refl
+same_size _ _ h = absurd (false≢true h)
 
 -- the first component gives the kind
 compose_of : (vs : List Value) (z : VectorSize) (cs : List ExpressionHandle) (b c d : Components) (o : Option TypeInner) (t : TypeInner)
     → Of t (listed o (compose_type (types_of vs) z cs))
     → type_of (Number (composed (width_of z) (components_of (value_at vs (handle_at cs 0))) b c d)) ≡ t
-compose_of vs z cs b c d None t h = absurd h
-compose_of vs z cs b c d (Some (Scalar k)) t h = absurd h
 compose_of vs z cs b c d (Some (Vector s k)) t h =
     let both = of_test (eqb (size_of s) (size_of z) && composes (types_of vs) z cs k) (Vector s k) t h in
     let fits = and_parts (eqb (size_of s) (size_of z)) (composes (types_of vs) z cs k) both.0 in
@@ -259,9 +252,7 @@ compose_of vs z cs b c d (Some (Vector s k)) t h =
     ∙ ap (Vector z) (kind_composed (width_of z) a.lanes b.lanes c.lanes d.lanes ∙ kind)
     ∙ ap (λ x. Vector x k) (same_size s z fits.0)
     ∙ both.1
-compose_of vs z cs b c d (Some (Image x y w)) t h = absurd h
-compose_of vs z cs b c d (Some Sampler) t h = absurd h
-compose_of vs z cs b c d (Some (BindingArray x)) t h = absurd h
+compose_of vs z cs b c d _ t h = absurd h
 
 -- an input, its lanes past the width put to zero
 clean_of : (c : Components) → type_of (Number (clean c)) ≡ type_of (Number c)
