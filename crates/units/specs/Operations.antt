@@ -1,11 +1,11 @@
 -- What operations make of components: total, and right where the types are. A lane past the width is zero.
 use Rattle.std.specs.Prelude.{ℕ, false, List, [], ◌∷◌, pos, slice_index, slice_index_or}
 use Rattle.units.specs.declared.values.Width.{Width}
-use Rattle.units.specs.declared.values.Width.TheVariants.{One}
 use Rattle.units.specs.declared.values.Lanes.{Lanes}
 use Rattle.units.specs.declared.values.Lanes.TheVariants as lanes
 use Rattle.units.specs.declared.values.Components.{Components}
 use Rattle.units.specs.Arithmetic.{zero_float, quotient, nearest, to_sint, bits_to_sint}
+use Rattle.units.specs.Values.{float_scalar}
 use Rattle.units.specs.Lanes.{fill, first_float, first_sint, first_uint, first_bool}
 
 -- lanes by their numbers
@@ -34,10 +34,7 @@ abbrev pub composed : Width → Components → Components → Components → Com
 composed w a b c d = record { width = w; lanes = composed_of w a.lanes b.lanes c.lanes d.lanes }
 
 abbrev pub divided : Components → Components → Components
-divided a b = record {
-  width = One;
-  lanes = lanes.Float (quotient (first_float a.lanes) (first_float b.lanes) ∷ zero_float ∷ zero_float ∷ zero_float ∷ []);
-}
+divided a b = float_scalar (quotient (first_float a.lanes) (first_float b.lanes))
 
 -- f at each lane within the width
 abbrev pub mapped : {X Y : Type 0} → X → Y → (X → Y) → Width → List X → List Y

@@ -32,6 +32,7 @@ kind_of (Sint xs) = kinds.Sint
 kind_of (Uint xs) = kinds.Uint
 kind_of (Bool xs) = kinds.Bool
 
+-- a scalar of kind Float
 abbrev pub float_scalar : Binary → Components
 float_scalar x = record { width = One; lanes = Float (x ∷ zero_float ∷ zero_float ∷ zero_float ∷ []) }
 
