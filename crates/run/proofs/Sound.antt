@@ -25,7 +25,7 @@ use Rattle.units.specs.declared.values.Lanes.TheVariants as lanes
 use Rattle.units.specs.declared.values.Components.{Components}
 use Rattle.units.specs.declared.values.Value.{Value}
 use Rattle.units.specs.declared.values.Value.TheVariants.{Number, Texture}
-use Rattle.units.specs.Values.{kind_of, shape, as_handle, type_of}
+use Rattle.units.specs.Values.{width_of, kind_of, shape, as_handle, type_of}
 use Rattle.units.specs.Operations.{chosen_of, composed_of, rounded_of, casted_of, rounded, casted, chosen, composed}
 use Rattle.units.specs.Requests.{Answers, Typed, is_gather, clean_lanes, clean}
 use Rattle.run.specs.declared.rules.Sight.{Sight}
@@ -34,7 +34,7 @@ use Rattle.run.specs.Envs.{Env}
 use Rattle.run.specs.Types.{size_of, same_type, when, scalar_kind, kind_in, part_type}
 use Rattle.run.specs.Rules.{Known, listed, known, fine, test, is_of, is_int, texture_type, number_type, literal_type, resource, element, composes, compose_type, splat_type, swizzle_type, cast_type, is_depth, answered_by, sample_fits, sample_type, load_fits, load_type, made_of, leaf_rule, otherwise, rule_of, result_fits, resulting, seen}
 use Rattle.run.specs.Statics.{type_by, element_type}
-use Rattle.run.specs.Worth.{Values, width_of, no_components, components_of, texture_type_of, literal_components, numbers_of, handle_at, optional, depth_of, sort_of, sample_request, load_request, worth_tag, worth}
+use Rattle.run.specs.Worth.{Values, no_components, components_of, texture_type_of, literal_components, numbers_of, handle_at, optional, depth_of, sort_of, sample_request, load_request, worth_tag, worth}
 use Rattle.run.specs.Runs.{value_at, types_of}
 use Rattle.run.proofs.Sames.{same_true}
 

@@ -34,6 +34,7 @@ use Rattle.units.specs.declared.requests.Level.TheVariants.{Unstated, Auto, Zero
 use Rattle.units.specs.declared.requests.Request.{Request}
 use Rattle.units.specs.Arithmetic.{zero_float, sint_to_bits}
 use Rattle.units.specs.Requests.{Answers, clean}
+use Rattle.units.specs.Values.{width_of}
 use Rattle.units.specs.Operations.{chosen, composed, divided, rounded, casted}
 use Rattle.run.specs.Envs.{Env}
 use Rattle.run.specs.Types.{kind_in}
@@ -43,11 +44,6 @@ use Rattle.run.specs.Statics.{type_by, element_type}
 -- the values worked out so far
 abbrev pub Values : Type 0
 Values = ℕ → Value
-
-abbrev pub width_of : VectorSize → Width
-width_of Bi = Two
-width_of Tri = Three
-width_of Quad = Four
 
 abbrev pub no_components : Components
 no_components = record { width = One; lanes = lanes.Float (zero_float ∷ zero_float ∷ zero_float ∷ zero_float ∷ []) }

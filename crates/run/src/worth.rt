@@ -4,7 +4,7 @@ ghost use Rattle.std.specs.Option.{option_map, unwrap_or};
 ghost use Rattle.units.specs.Requests.{clean};
 ghost use Rattle.run.specs.Envs.{env_of};
 ghost use Rattle.run.specs.Runs.{value_at, input_at};
-ghost use Rattle.run.specs.Worth.{width_of, no_components, literal_components, whole, index_bits, element_of, numbers_of, computed_tag, worth};
+ghost use Rattle.run.specs.Worth.{no_components, literal_components, whole, index_bits, element_of, numbers_of, computed_tag, worth};
 
 use crate::lists::Lists;
 use crate::requests::{
@@ -12,22 +12,11 @@ use crate::requests::{
     texture_type_of, value_at,
 };
 use crate::rules::component_number;
-use records::{Expression, ExpressionTag, Literal, SwizzleComponent, TypeInner, VectorSize};
+use records::{Expression, ExpressionTag, Literal, SwizzleComponent, TypeInner};
 use units::{
-    Components, Lanes, Reference, Resource, Root, TextureUnit, Value, Width, bits_of_sint,
-    cast_components, choose, clean, compose, divide_scalars, first_sint, first_uint,
-    round_components,
+    Components, Lane, Lanes, Reference, Resource, Root, TextureUnit, Value, Width, bits_of_sint,
+    cast_components, choose, clean, compose, divide_scalars, round_components,
 };
-
-pub fn width_of(size: VectorSize) -> Width
-    ensures { result ≡ width_of size }
-{
-    match size {
-        VectorSize::Bi => Width::Two,
-        VectorSize::Tri => Width::Three,
-        VectorSize::Quad => Width::Four,
-    }
-}
 
 fn literal_components(literal: Literal) -> Components
     ensures { result ≡ literal_components literal }
@@ -72,8 +61,8 @@ fn index_bits(lanes: Lanes) -> u32
     ensures { result ≡ index_bits lanes }
 {
     match lanes {
-        Lanes::Sint(_) => bits_of_sint(first_sint(lanes)),
-        Lanes::Uint(_) => first_uint(lanes),
+        Lanes::Sint(_) => bits_of_sint(i32::first(lanes)),
+        Lanes::Uint(_) => u32::first(lanes),
         _ => 0,
     }
 }
@@ -137,8 +126,8 @@ fn compute(values: &[Value], i: usize, e: Expression) -> Components
     let base = components_at(values, i, e.base);
     match e.tag {
         ExpressionTag::AccessIndex => choose(Width::One, [e.index; 4], base),
-        ExpressionTag::Splat => choose(width_of(e.size), [0; 4], base),
-        ExpressionTag::Swizzle => choose(width_of(e.size), numbers_of(e.pattern), base),
+        ExpressionTag::Splat => choose(e.size.into(), [0; 4], base),
+        ExpressionTag::Swizzle => choose(e.size.into(), numbers_of(e.pattern), base),
         ExpressionTag::Divide => divide_scalars(base, components_at(values, i, e.other)),
         ExpressionTag::Round => round_components(base),
         ExpressionTag::As => cast_components(base),
@@ -147,7 +136,7 @@ fn compute(values: &[Value], i: usize, e: Expression) -> Components
             let b = components_at(values, i, e.components[1]);
             let c = components_at(values, i, e.components[2]);
             let d = components_at(values, i, e.components[3]);
-            compose(width_of(e.size), a, b, c, d)
+            compose(e.size.into(), a, b, c, d)
         }
         _ => base,
     }
