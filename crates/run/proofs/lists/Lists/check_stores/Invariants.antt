@@ -2,7 +2,7 @@ use Rattle.std.proofs.Common.{◌≡◌, drop}
 use Rattle.run.specs.Envs.{env_of}
 use Rattle.run.specs.Statics.{known_before}
 use Rattle.run.specs.Stores.{halting_stores}
-use Rattle.run.proofs.lists.Lists.first_store_halt.Given as goal
+use Rattle.run.proofs.lists.Lists.check_stores.Given as goal
 
 -- what is left of the statements decides the whole
 abbrev pub invariant-loop-j : goal.invariant-loop-j

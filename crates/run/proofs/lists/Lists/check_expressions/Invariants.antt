@@ -2,7 +2,7 @@ use Rattle.std.proofs.Common.{◌≡◌, drop}
 use Rattle.run.specs.Envs.{env_of}
 use Rattle.run.specs.Runs.{halting}
 use Rattle.run.specs.Statics.{known_before}
-use Rattle.run.proofs.lists.Lists.first_halt.Given as goal
+use Rattle.run.proofs.lists.Lists.check_expressions.Given as goal
 
 -- what is left of the expressions decides the whole
 abbrev pub invariant-loop-i : goal.invariant-loop-i
