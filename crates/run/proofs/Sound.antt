@@ -1,7 +1,8 @@
 -- A value is of the type that was seen: the link between the rules and the values.
-use Rattle.std.proofs.Common.{◌≡◌, ℕ, zero, suc, Bool, true, false, cond, not, ◌&&◌, ◌||◌, eqb, List, [], ◌∷◌, is_some, Some, None, Option, unwrap_or, sym, refl, ap, ◌∙◌, subst}
+use Rattle.std.proofs.Common.{◌≡◌, ℕ, zero, suc, Bool, true, false, cond, not, ◌&&◌, ◌||◌, eqb, List, [], ◌∷◌, is_some, Some, None, Ok, Err, Option, unwrap_or, sym, refl, ap, ◌∙◌, subst}
 use Rattle.std.specs.Option.{option_map}
 use Rattle.std.proofs.lemmas.Bool.{and_parts, false≢true}
+use Rattle.records.proofs.Equal.{types_decided}
 use Rattle.records.specs.declared.constants.Literal.{Literal}
 use Rattle.records.specs.declared.constants.Literal.TheVariants.{U32, I32, F32}
 use Rattle.records.specs.declared.handles.TypeHandle.{TypeHandle}
@@ -25,26 +26,25 @@ use Rattle.units.specs.declared.values.Lanes.TheVariants as lanes
 use Rattle.units.specs.declared.values.Components.{Components}
 use Rattle.units.specs.declared.values.Value.{Value}
 use Rattle.units.specs.declared.values.Value.TheVariants.{Number, Texture}
-use Rattle.units.specs.Values.{kind_of, shape, as_handle, type_of}
+use Rattle.units.specs.Values.{width_of, kind_of, shape, as_handle, type_of}
 use Rattle.units.specs.Operations.{chosen_of, composed_of, rounded_of, casted_of, rounded, casted, chosen, composed}
 use Rattle.units.specs.Requests.{Answers, Typed, is_gather, clean_lanes, clean}
-use Rattle.run.specs.declared.rules.Sight.{Sight}
-use Rattle.run.specs.declared.rules.Sight.TheVariants.{Fine, Lacking, Outside}
+use Rattle.run.specs.declared.rules.Miss.TheVariants.{Lacking, Outside}
 use Rattle.run.specs.Envs.{Env}
-use Rattle.run.specs.Types.{size_of, same_type, when, scalar_kind, kind_in, part_type}
-use Rattle.run.specs.Rules.{Known, listed, known, fine, test, is_of, is_int, texture_type, number_type, literal_type, resource, element, composes, compose_type, splat_type, swizzle_type, cast_type, is_depth, answered_by, sample_fits, sample_type, load_fits, load_type, made_of, leaf_rule, otherwise, rule_of, result_fits, resulting, seen}
+use Rattle.records.specs.Numbers.{size_of}
+use Rattle.records.specs.Types.{same_type}
+use Rattle.run.specs.Types.{when, scalar_kind, kind_in, part_type}
+use Rattle.run.specs.Rules.{Sight, Known, listed, known, fine, test, is_of, is_int, texture_type, number_type, literal_type, resource, element, composes, compose_type, splat_type, swizzle_type, cast_type, is_depth, answered_by, sample_fits, sample_type, load_fits, load_type, made_of, leaf_rule, otherwise, rule_of, result_fits, resulting, seen}
 use Rattle.run.specs.Statics.{type_by, element_type}
-use Rattle.run.specs.Worth.{Values, width_of, no_components, components_of, texture_type_of, literal_components, numbers_of, handle_at, optional, depth_of, sort_of, sample_request, load_request, worth_tag, worth}
+use Rattle.run.specs.Worth.{Values, no_components, components_of, texture_type_of, literal_components, numbers_of, handle_at, optional, depth_of, sort_of, sample_request, load_request, worth_tag, worth}
 use Rattle.run.specs.Runs.{value_at, types_of}
-use Rattle.run.proofs.Sames.{same_true}
 
 -- that a sight is fine, of a type: it computes, so that a refused case gives ⊥
 abbrev pub Of : TypeInner → Sight → Type 0
-Of t (Fine u) = u ≡ t
-Of t Lacking = ⊥
-Of t Outside = ⊥
+Of t (Ok u) = u ≡ t
+Of t (Err miss) = ⊥
 
-pub is_of_holds : (s : Sight) (t : TypeInner) → s ≡ Fine t → Of t s
+pub is_of_holds : (s : Sight) (t : TypeInner) → s ≡ Ok t → Of t s
 is_of_holds s t e = subst (Of t) (sym e) refl
 
 pub of_test : (b : Bool) (u t : TypeInner) → Of t (test b u) → (b ≡ true) × (u ≡ t)
@@ -64,11 +64,10 @@ of_result_holds env (Some r) u t h = by (env.types r.index) h
     by None h = absurd h
     by (Some r) h = (of_test (same_type u r) u t h).1
 
-pub of_rule : (env : Env) (b : Bool) (o : Option TypeHandle) (s : Sight) (t : TypeInner) → Of t (cond b (resulting env o s) Outside) → Of t s
+pub of_rule : (env : Env) (b : Bool) (o : Option TypeHandle) (s : Sight) (t : TypeInner) → Of t (cond b (resulting env o s) (Err Outside)) → Of t s
 of_rule env false o s t h = absurd h
-of_rule env true o (Fine u) t h = of_result_holds env o u t h
-of_rule env true o Lacking t h = absurd h
-of_rule env true o Outside t h = absurd h
+of_rule env true o (Ok u) t h = of_result_holds env o u t h
+of_rule env true o (Err miss) t h = absurd h
 
 -- a known operand type is the type of the value there
 pub of_known : (vs : List Value) (n : ℕ) (f : TypeInner → Sight) (t : TypeInner) → Of t (known (types_of vs n) f) → Of t (f (type_of (value_at vs n)))
@@ -78,7 +77,7 @@ of_known (v ∷ vs) (suc n) f t h = of_known vs n f t h
 
 known_is : (vs : List Value) (n : ℕ) (u : TypeInner) → is_of (types_of vs n) u ≡ true → type_of (value_at vs n) ≡ u
 known_is [] n u h = absurd (false≢true h)
-known_is (v ∷ vs) zero u h = same_true (type_of v) u h
+known_is (v ∷ vs) zero u h = (types_decided (type_of v) u).0 h
 known_is (v ∷ vs) (suc n) u h = known_is vs n u h
 
 -- operations keep the kind of lanes
@@ -137,11 +136,9 @@ kind_scalar (Texture r) k e = absurd (false≢true (handle_scalar r.ty k e))
 
 no_handle : (f : TypeInner → Sight) (u t : TypeInner) → ((d : ImageDimension) (a : Bool) (c : ImageClass) → Of t (f (Image d a c)) → ⊥)
     → (Of t (f Sampler) → ⊥) → ((b : TypeHandle) → Of t (f (BindingArray b)) → ⊥) → Of t (f (as_handle u)) → ⊥
-no_handle f (Scalar k) t image sampler array h = sampler h
-no_handle f (Vector s k) t image sampler array h = sampler h
 no_handle f (Image d a c) t image sampler array h = image d a c h
-no_handle f Sampler t image sampler array h = sampler h
 no_handle f (BindingArray b) t image sampler array h = array b h
+no_handle f _ t image sampler array h = sampler h
 
 no_number : (f : TypeInner → Sight) (c : Components) (t : TypeInner) → ((k : ScalarKind) → Of t (f (Scalar k)) → ⊥)
     → ((s : VectorSize) (k : ScalarKind) → Of t (f (Vector s k)) → ⊥) → Of t (f (type_of (Number c))) → ⊥
@@ -159,7 +156,7 @@ rounded_of_holds : (v : Value) (k : ScalarKind) → type_of v ≡ Scalar k → t
 rounded_of_holds (Number c) k e = ap (shape c.width) (kind_rounded c.width c.lanes) ∙ e
 rounded_of_holds (Texture r) k e = absurd (false≢true (handle_scalar r.ty k e))
 
-constant_of : (o : Option Literal) (t : TypeInner) → Of t (listed o (λ l. Fine (literal_type l)))
+constant_of : (o : Option Literal) (t : TypeInner) → Of t (listed o (λ l. Ok (literal_type l)))
     → type_of (Number (unwrap_or (option_map literal_components o) no_components)) ≡ t
 constant_of None t h = absurd h
 constant_of (Some (U32 x)) t h = h
@@ -169,9 +166,7 @@ constant_of (Some (F32 x)) t h = h
 handle_of : (u t : TypeInner) → Of t (fine (texture_type u)) → as_handle u ≡ t
 handle_of (Scalar k) t h = absurd h
 handle_of (Vector s k) t h = absurd h
-handle_of (Image d a c) t h = h
-handle_of Sampler t h = h
-handle_of (BindingArray b) t h = h
+handle_of _ t h = h
 
 listed_of : (o : Option TypeInner) (t : TypeInner) → Of t (listed o (λ u. fine (texture_type u))) → as_handle (unwrap_or o Sampler) ≡ t
 listed_of None t h = absurd h
@@ -186,16 +181,13 @@ element_of_holds : (env : Env) (v : Value) (i t : TypeInner) → Of t (element e
 element_of_holds env (Number c) i t h = absurd (no_number (λ u. element env u i) c t (λ k x. x) (λ s k x. x) h)
 element_of_holds env (Texture r) i t h = by r.ty h
   where
-    inner : (b : Bool) (o : Option TypeInner) → Of t (cond b (listed o (λ u. fine (texture_type u))) Lacking) → as_handle (unwrap_or o Sampler) ≡ t
+    inner : (b : Bool) (o : Option TypeInner) → Of t (cond b (listed o (λ u. fine (texture_type u))) (Err Lacking)) → as_handle (unwrap_or o Sampler) ≡ t
     inner true o h = listed_of o t h
     inner false o h = absurd h
 
     by : (u : TypeInner) → Of t (element env (as_handle u) i) → as_handle (unwrap_or (element_type env u) Sampler) ≡ t
-    by (Scalar k) h = absurd h
-    by (Vector s k) h = absurd h
-    by (Image d a c) h = absurd h
-    by Sampler h = absurd h
     by (BindingArray b) h = inner (is_int (Some i) Scalar) (env.types b.index) h
+    by _ h = absurd h
 
 part_of : (i : ℕ) (ns : List ℕ) (v : Value) (t : TypeInner) → Of t (fine (part_type i (type_of v)))
     → type_of (Number (chosen One ns (components_of v))) ≡ t
@@ -203,9 +195,7 @@ part_of i ns (Number c) t h = ap Scalar (kind_chosen One ns c.lanes) ∙ by c.wi
   where
     by : (w : Width) (k : ScalarKind) → Of t (fine (part_type i (shape w k))) → Scalar k ≡ t
     by One k h = absurd h
-    by Two k h = of_when _ (Scalar k) t h
-    by Three k h = of_when _ (Scalar k) t h
-    by Four k h = of_when _ (Scalar k) t h
+    by _ k h = of_when _ (Scalar k) t h
 part_of i ns (Texture r) t h = absurd (no_handle (λ u. fine (part_type i u)) r.ty t (λ d a c x. x) (λ x. x) (λ b x. x) h)
 
 -- lanes chosen into a vector: of the kind that they were
@@ -218,9 +208,7 @@ splat_of s ns (Number c) t h = chosen_vector s ns c ∙ by c.width (kind_of c.la
   where
     by : (w : Width) (k : ScalarKind) → Of t (fine (splat_type s (shape w k))) → Vector s k ≡ t
     by One k h = h
-    by Two k h = absurd h
-    by Three k h = absurd h
-    by Four k h = absurd h
+    by _ k h = absurd h
 splat_of s ns (Texture r) t h = absurd (no_handle (λ u. fine (splat_type s u)) r.ty t (λ d a c x. x) (λ x. x) (λ b x. x) h)
 
 swizzle_of : (s : VectorSize) (p : List SwizzleComponent) (ns : List ℕ) (v : Value) (t : TypeInner) → Of t (fine (swizzle_type s p (type_of v)))
@@ -229,9 +217,7 @@ swizzle_of s p ns (Number c) t h = chosen_vector s ns c ∙ by c.width (kind_of 
   where
     by : (w : Width) (k : ScalarKind) → Of t (fine (swizzle_type s p (shape w k))) → Vector s k ≡ t
     by One k h = absurd h
-    by Two k h = of_when _ (Vector s k) t h
-    by Three k h = of_when _ (Vector s k) t h
-    by Four k h = of_when _ (Vector s k) t h
+    by _ k h = of_when _ (Vector s k) t h
 swizzle_of s p ns (Texture r) t h = absurd (no_handle (λ u. fine (swizzle_type s p u)) r.ty t (λ d a c x. x) (λ x. x) (λ b x. x) h)
 
 cast_of : (v : Value) (t : TypeInner) → Of t (fine (cast_type (type_of v))) → type_of (Number (casted (components_of v))) ≡ t
@@ -242,28 +228,19 @@ cast_of (Number c) t h = by c.width c.lanes h
     by One (lanes.Sint xs) h = h
     by One (lanes.Uint xs) h = h
     by One (lanes.Bool xs) h = absurd h
-    by Two l h = absurd h
-    by Three l h = absurd h
-    by Four l h = absurd h
+    by _ l h = absurd h
 cast_of (Texture r) t h = absurd (no_handle (λ u. fine (cast_type u)) r.ty t (λ d a c x. x) (λ x. x) (λ b x. x) h)
 
 same_size : (a b : VectorSize) → eqb (size_of a) (size_of b) ≡ true → b ≡ a
 same_size Bi Bi h = refl
-same_size Bi Tri h = absurd (false≢true h)
-same_size Bi Quad h = absurd (false≢true h)
-same_size Tri Bi h = absurd (false≢true h)
 same_size Tri Tri h = refl
-same_size Tri Quad h = absurd (false≢true h)
-same_size Quad Bi h = absurd (false≢true h)
-same_size Quad Tri h = absurd (false≢true h)
 same_size Quad Quad h = refl
+same_size _ _ h = absurd (false≢true h)
 
 -- the first component gives the kind
 compose_of : (vs : List Value) (z : VectorSize) (cs : List ExpressionHandle) (b c d : Components) (o : Option TypeInner) (t : TypeInner)
     → Of t (listed o (compose_type (types_of vs) z cs))
     → type_of (Number (composed (width_of z) (components_of (value_at vs (handle_at cs 0))) b c d)) ≡ t
-compose_of vs z cs b c d None t h = absurd h
-compose_of vs z cs b c d (Some (Scalar k)) t h = absurd h
 compose_of vs z cs b c d (Some (Vector s k)) t h =
     let both = of_test (eqb (size_of s) (size_of z) && composes (types_of vs) z cs k) (Vector s k) t h in
     let fits = and_parts (eqb (size_of s) (size_of z)) (composes (types_of vs) z cs k) both.0 in
@@ -275,9 +252,7 @@ compose_of vs z cs b c d (Some (Vector s k)) t h =
     ∙ ap (Vector z) (kind_composed (width_of z) a.lanes b.lanes c.lanes d.lanes ∙ kind)
     ∙ ap (λ x. Vector x k) (same_size s z fits.0)
     ∙ both.1
-compose_of vs z cs b c d (Some (Image x y w)) t h = absurd h
-compose_of vs z cs b c d (Some Sampler) t h = absurd h
-compose_of vs z cs b c d (Some (BindingArray x)) t h = absurd h
+compose_of vs z cs b c d _ t h = absurd h
 
 -- an input, its lanes past the width put to zero
 clean_of : (c : Components) → type_of (Number (clean c)) ≡ type_of (Number c)
@@ -285,12 +260,9 @@ clean_of c = ap (shape c.width) (kind_clean c.width c.lanes)
 
 supplied_of : (c : Components) (o : Option TypeInner) (t : TypeInner) → ((u : TypeInner) → o ≡ Some u → type_of (Number c) ≡ u)
     → Of t (listed o (λ u. fine (number_type u))) → type_of (Number (clean c)) ≡ t
-supplied_of c None t fits h = absurd h
 supplied_of c (Some (Scalar k)) t fits h = clean_of c ∙ fits (Scalar k) refl ∙ h
 supplied_of c (Some (Vector s k)) t fits h = clean_of c ∙ fits (Vector s k) refl ∙ h
-supplied_of c (Some (Image d a x)) t fits h = absurd h
-supplied_of c (Some Sampler) t fits h = absurd h
-supplied_of c (Some (BindingArray b)) t fits h = absurd h
+supplied_of c _ t fits h = absurd h
 
 -- a request asks by the image's type, so that its answer is of the type that the rule says
 
@@ -315,11 +287,8 @@ sample_of at tys e (Texture r) t h =
     ∙ by r.ty h
   where
     by : (u : TypeInner) → Of t (sample_type tys e (as_handle u)) → asked u (is_some e.image.depth_ref) (is_some e.image.gather) ≡ t
-    by (Scalar k) h = absurd h
-    by (Vector s k) h = absurd h
     by (Image d a c) h = (of_test (sample_fits tys e d a) _ t h).1
-    by Sampler h = absurd h
-    by (BindingArray b) h = absurd h
+    by _ h = absurd h
 
 load_of : (tys : Known) (e : Expression) (v : Value) (t : TypeInner) → Of t (load_type tys e (type_of v)) → asked (texture_type_of v) false false ≡ t
 load_of tys e (Number c) t h = absurd (no_number (load_type tys e) c t (λ k x. x) (λ s k x. x) h)
@@ -330,11 +299,8 @@ load_of tys e (Texture r) t h = by r.ty h
     plain false = refl
 
     by : (u : TypeInner) → Of t (load_type tys e (as_handle u)) → asked u false false ≡ t
-    by (Scalar k) h = absurd h
-    by (Vector s k) h = absurd h
     by (Image d a c) h = ap (λ b. answered_by b c) (plain (is_depth c)) ∙ (of_test (load_fits tys e d a) _ t h).1
-    by Sampler h = absurd h
-    by (BindingArray b) h = absurd h
+    by _ h = absurd h
 
 -- the input of a Supplied record has its type
 abbrev pub InputFits : Env → (ℕ → Components) → Expression → Type 0
@@ -372,7 +338,7 @@ module _ (env : Env) (answers : Answers) (typed : Typed answers) (ins : ℕ → 
   by_tag ImageLoad is fits h = (typed (load_request (value_at vs) e)).typed ∙ load_of (types_of vs) e operand t (made ImageLoad h)
 
 pub worth_typed : (env : Env) (answers : Answers) (typed : Typed answers) (ins : ℕ → Components) (vs : List Value) (e : Expression) (t : TypeInner)
-    → InputFits env ins e → seen env (types_of vs) e ≡ Fine t → type_of (worth env answers ins (value_at vs) e) ≡ t
+    → InputFits env ins e → seen env (types_of vs) e ≡ Ok t → type_of (worth env answers ins (value_at vs) e) ≡ t
 worth_typed env answers typed ins vs e t fits h =
     by_tag env answers typed ins vs e t e.tag refl fits
     (of_rule env _ e.result (rule_of env (types_of vs) e) t (is_of_holds (seen env (types_of vs) e) t h))

@@ -4,12 +4,10 @@ use Rattle.std.specs.Option.{option_map, unwrap_or}
 use Rattle.records.specs.declared.constants.Literal.{Literal}
 use Rattle.records.specs.declared.constants.Literal.TheVariants.{U32, I32, F32}
 use Rattle.records.specs.declared.handles.ExpressionHandle.{ExpressionHandle}
-use Rattle.records.specs.declared.types.VectorSize.{VectorSize}
-use Rattle.records.specs.declared.types.VectorSize.TheVariants.{Bi, Tri, Quad}
 use Rattle.records.specs.declared.types.ImageDimension.{ImageDimension}
 use Rattle.records.specs.declared.types.ImageDimension.TheVariants.{D1}
 use Rattle.records.specs.declared.types.TypeInner.{TypeInner}
-use Rattle.records.specs.declared.types.TypeInner.TheVariants.{Scalar, Vector, Image, Sampler, BindingArray}
+use Rattle.records.specs.declared.types.TypeInner.TheVariants.{Image, Sampler}
 use Rattle.records.specs.declared.expressions.SwizzleComponent.{SwizzleComponent}
 use Rattle.records.specs.declared.expressions.SwizzleComponent.TheVariants.{X}
 use Rattle.records.specs.declared.expressions.SampleLevel.{SampleLevel}
@@ -17,8 +15,7 @@ use Rattle.records.specs.declared.expressions.SampleLevel.TheVariants as samplin
 use Rattle.records.specs.declared.expressions.ExpressionTag.{ExpressionTag}
 use Rattle.records.specs.declared.expressions.ExpressionTag.TheVariants.{GlobalVariable, FunctionArgument, Constant, Supplied, Access, AccessIndex, Compose, Splat, Swizzle, Divide, Round, As, ImageSample, ImageLoad}
 use Rattle.records.specs.declared.expressions.Expression.{Expression}
-use Rattle.units.specs.declared.values.Width.{Width}
-use Rattle.units.specs.declared.values.Width.TheVariants.{One, Two, Three, Four}
+use Rattle.units.specs.declared.values.Width.TheVariants.{One}
 use Rattle.units.specs.declared.values.Lanes.{Lanes}
 use Rattle.units.specs.declared.values.Lanes.TheVariants as lanes
 use Rattle.units.specs.declared.values.Components.{Components}
@@ -34,20 +31,17 @@ use Rattle.units.specs.declared.requests.Level.TheVariants.{Unstated, Auto, Zero
 use Rattle.units.specs.declared.requests.Request.{Request}
 use Rattle.units.specs.Arithmetic.{zero_float, sint_to_bits}
 use Rattle.units.specs.Requests.{Answers, clean}
+use Rattle.units.specs.Values.{width_of}
 use Rattle.units.specs.Operations.{chosen, composed, divided, rounded, casted}
 use Rattle.run.specs.Envs.{Env}
 use Rattle.run.specs.Types.{kind_in}
-use Rattle.run.specs.Rules.{is_depth, component_number}
+use Rattle.records.specs.Numbers.{component_number}
+use Rattle.run.specs.Rules.{is_depth}
 use Rattle.run.specs.Statics.{type_by, element_type}
 
 -- the values worked out so far
 abbrev pub Values : Type 0
 Values = ℕ → Value
-
-abbrev pub width_of : VectorSize → Width
-width_of Bi = Two
-width_of Tri = Three
-width_of Quad = Four
 
 abbrev pub no_components : Components
 no_components = record { width = One; lanes = lanes.Float (zero_float ∷ zero_float ∷ zero_float ∷ zero_float ∷ []) }
@@ -84,10 +78,9 @@ whole root t = Texture (record { resource = record { root = root; depth = 0; ind
 
 -- the bits of an index, Sint or Uint alike
 abbrev pub index_bits : Lanes → ℕ
-index_bits (lanes.Float xs) = 0
 index_bits (lanes.Sint xs) = sint_to_bits (slice_index_or xs 0 (pos 0))
 index_bits (lanes.Uint xs) = slice_index xs 0
-index_bits (lanes.Bool xs) = 0
+index_bits _ = 0
 
 -- one element further: the first four indexes are kept
 abbrev pub element_of : Env → Value → Value → Value
@@ -121,75 +114,59 @@ load_level None = Unstated
 load_level (Some c) = Exact c
 
 abbrev pub dimension_of : TypeInner → ImageDimension
-dimension_of (Scalar k) = D1
-dimension_of (Vector s k) = D1
 dimension_of (Image d a c) = d
-dimension_of Sampler = D1
-dimension_of (BindingArray b) = D1
+dimension_of _ = D1
 
 abbrev pub depth_of : TypeInner → Bool
-depth_of (Scalar k) = false
-depth_of (Vector s k) = false
 depth_of (Image d a c) = is_depth c
-depth_of Sampler = false
-depth_of (BindingArray b) = false
+depth_of _ = false
 
 abbrev pub sort_of : Option SwizzleComponent → Sort
 sort_of None = Sample
 sort_of (Some c) = Gather
 
--- of a sample or gather
-abbrev pub sample_request : Values → Expression → Request
-sample_request at e =
-    let image : Value = at e.base.index in
-    let t : TypeInner = texture_type_of image in
-    record {
-      texture = resource_of image;
-      sampler = Some (resource_of (at e.other.index));
-      sort = sort_of e.image.gather;
-      kind = kind_in t;
-      dim = dimension_of t;
-      depth = depth_of t;
-      coordinate = components_of (at e.image.coordinate.index);
-      layer = optional at e.image.array_index;
-      gather = e.image.gather;
-      sample = None;
-      offset = optional at e.image.offset;
-      level = level_of at e.image.level;
-      reference = optional at e.image.depth_ref;
-      value = None;
-    }
-
-abbrev pub load_request : Values → Expression → Request
-load_request at e =
-    let image : Value = at e.base.index in
+-- what every request of an image has; the other parts are missing
+abbrev pub image_request : Values → Sort → ExpressionHandle → ExpressionHandle → Option ExpressionHandle → Request
+image_request at sort i c l =
+    let image : Value = at i.index in
     let t : TypeInner = texture_type_of image in
     record {
       texture = resource_of image;
       sampler = None;
-      sort = Load;
+      sort = sort;
       kind = kind_in t;
       dim = dimension_of t;
       depth = depth_of t;
-      coordinate = components_of (at e.image.coordinate.index);
-      layer = optional at e.image.array_index;
+      coordinate = components_of (at c.index);
+      layer = optional at l;
       gather = None;
-      sample = optional at e.image.sample;
+      sample = None;
       offset = None;
-      level = load_level (optional at e.image.lod);
+      level = Unstated;
       reference = None;
       value = None;
     }
+
+-- of a sample or gather
+abbrev pub sample_request : Values → Expression → Request
+sample_request at e = record (image_request at (sort_of e.image.gather) e.base e.image.coordinate e.image.array_index) {
+  sampler = Some (resource_of (at e.other.index));
+  gather = e.image.gather;
+  offset = optional at e.image.offset;
+  level = level_of at e.image.level;
+  reference = optional at e.image.depth_ref;
+}
+
+abbrev pub load_request : Values → Expression → Request
+load_request at e = record (image_request at Load e.base e.image.coordinate e.image.array_index) {
+  sample = optional at e.image.sample;
+  level = load_level (optional at e.image.lod);
+}
 
 -- values
 
 -- of a record that computes components from those of other expressions
 abbrev pub computed_tag : Values → Expression → ExpressionTag → Components
-computed_tag at e GlobalVariable = components_of (at e.base.index)
-computed_tag at e FunctionArgument = components_of (at e.base.index)
-computed_tag at e Constant = components_of (at e.base.index)
-computed_tag at e Supplied = components_of (at e.base.index)
-computed_tag at e Access = components_of (at e.base.index)
 computed_tag at e AccessIndex = chosen One (e.index ∷ e.index ∷ e.index ∷ e.index ∷ []) (components_of (at e.base.index))
 computed_tag at e Compose =
     composed (width_of e.size) (components_of (at (handle_at e.components 0))) (components_of (at (handle_at e.components 1)))
@@ -199,8 +176,7 @@ computed_tag at e Swizzle = chosen (width_of e.size) (numbers_of e.pattern) (com
 computed_tag at e Divide = divided (components_of (at e.base.index)) (components_of (at e.other.index))
 computed_tag at e Round = rounded (components_of (at e.base.index))
 computed_tag at e As = casted (components_of (at e.base.index))
-computed_tag at e ImageSample = components_of (at e.base.index)
-computed_tag at e ImageLoad = components_of (at e.base.index)
+computed_tag at e _ = components_of (at e.base.index)
 
 abbrev pub worth_tag : Env → Answers → (ℕ → Components) → Values → Expression → ExpressionTag → Value
 worth_tag env answers ins at e GlobalVariable = whole (Variable e.variable) (type_by env (env.variables e.variable.index))
@@ -208,15 +184,9 @@ worth_tag env answers ins at e FunctionArgument = whole (Argument e.argument) (t
 worth_tag env answers ins at e Constant = Number (unwrap_or (option_map literal_components (env.constants e.constant.index)) no_components)
 worth_tag env answers ins at e Supplied = Number (clean (ins e.index))
 worth_tag env answers ins at e Access = element_of env (at e.base.index) (at e.other.index)
-worth_tag env answers ins at e AccessIndex = Number (computed_tag at e AccessIndex)
-worth_tag env answers ins at e Compose = Number (computed_tag at e Compose)
-worth_tag env answers ins at e Splat = Number (computed_tag at e Splat)
-worth_tag env answers ins at e Swizzle = Number (computed_tag at e Swizzle)
-worth_tag env answers ins at e Divide = Number (computed_tag at e Divide)
-worth_tag env answers ins at e Round = Number (computed_tag at e Round)
-worth_tag env answers ins at e As = Number (computed_tag at e As)
 worth_tag env answers ins at e ImageSample = Number (answers (sample_request at e))
 worth_tag env answers ins at e ImageLoad = Number (answers (load_request at e))
+worth_tag env answers ins at e tag = Number (computed_tag at e tag)
 
 abbrev pub worth : Env → Answers → (ℕ → Components) → Values → Expression → Value
 worth env answers ins at e = worth_tag env answers ins at e e.tag
