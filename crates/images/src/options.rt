@@ -1,8 +1,9 @@
 // What each opcode does, which images it may use, and of which types its operands are.
 ghost use Rattle.std.specs.Prelude.{◌≡◌, not};
 ghost use Rattle.images.specs.Rules.{options, sampling_of, place_size, is_cube, gatherable, is_storage, comparable, shape_of, array_base, sample_allows, load_allows, store_allows, is_float_scalar, grad_fits, offset_fits, is_integer_scalar, coordinate_fits, is_number, sample_result, load_result_fits, stored_fits, vector_size, composed_size};
+ghost use Rattle.images.specs.Plans.{shape_for};
 
-use records::{ImageClass, ImageDimension, ScalarKind, TypeHandle, TypeInner, VectorSize};
+use records::{Error, ImageClass, ImageDimension, ScalarKind, TypeHandle, TypeInner, VectorSize};
 use run::{
     class_kind, count_in, is_depth, is_float, is_integer, is_integer_place, is_integer_scalar,
     kind_in, place_type, same_kind, same_type,
@@ -115,6 +116,13 @@ pub fn shape_of(ty: TypeInner) -> Option<ImageShape>
         }),
         _ => None,
     }
+}
+
+// A type that has to be an image, whose word stands at a place.
+pub fn expect_image(place: usize, ty: TypeInner) -> Result<ImageShape, Error>
+    ensures { result ≡ shape_for place ty }
+{
+    shape_of(ty).ok_or(Error::InvalidImage(place))
 }
 
 // What a binding array is an array of.
