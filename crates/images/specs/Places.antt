@@ -1,5 +1,5 @@
 -- A place in an image: whether a coordinate fits it, and how it is taken apart. `u` has the used parts of the lists.
-use Rattle.std.specs.Prelude.{ℕ, Bool, cond, not, ◌||◌, Some, None, Ok, Option, Result, ◌==◌}
+use Rattle.std.specs.Prelude.{Bool, cond, not, ◌||◌, Some, None, Ok, Option, Result, ◌==◌}
 use Rattle.std.specs.Option.{ok_or, option_map}
 use Rattle.records.specs.Expressions.{no_type}
 use Rattle.records.specs.declared.handles.TypeHandle.{TypeHandle}

@@ -1,37 +1,31 @@
 -- Reading one instruction: the checks in the order of their refusals, and what they find. A refusal blames the place of a
 -- word. `u` has the used parts of the lists, `b` the books.
-use Rattle.std.specs.Prelude.{ℕ, Bool, true, false, cond, not, ◌&&◌, ◌||◌, Some, None, Ok, Option, Result, ◌==◌}
-use Rattle.std.specs.Option.{ok_or, option_map}
-use Rattle.records.specs.Expressions.{no_type}
+use Rattle.std.specs.Prelude.{ℕ, Bool, true, false, cond, not, ◌&&◌, ◌||◌, Some, None, Ok, Option, Result}
+use Rattle.std.specs.Bool.{then_some}
+use Rattle.std.specs.Option.{ok_or}
 use Rattle.records.specs.declared.expressions.SampleLevel.{SampleLevel}
 use Rattle.records.specs.declared.expressions.SampleLevel.TheVariants.{Auto, Zero, Exact, Bias, Gradient}
 use Rattle.records.specs.declared.expressions.SwizzleComponent.{SwizzleComponent}
 use Rattle.records.specs.declared.expressions.SwizzleComponent.TheVariants.{X}
-use Rattle.records.specs.declared.handles.TypeHandle.{TypeHandle}
 use Rattle.records.specs.declared.lookups.LookupSampledImage.{LookupSampledImage}
 use Rattle.records.specs.declared.refusals.Error.{Error}
-use Rattle.records.specs.declared.refusals.Error.TheVariants.{InvalidId, InvalidResultId, InvalidGlobalVar, InvalidImage, InvalidCoordinate, InvalidVectorType, InvalidType, MissingType}
-use Rattle.records.specs.declared.types.ImageDimension.{ImageDimension}
-use Rattle.records.specs.declared.types.ScalarKind.{ScalarKind}
+use Rattle.records.specs.declared.refusals.Error.TheVariants.{InvalidId, InvalidResultId, InvalidGlobalVar, InvalidImage, InvalidVectorType, InvalidType}
 use Rattle.records.specs.declared.types.TypeInner.{TypeInner}
-use Rattle.records.specs.declared.types.TypeInner.TheVariants.{Vector, Sampler}
-use Rattle.records.specs.declared.types.VectorSize.{VectorSize}
+use Rattle.records.specs.declared.types.TypeInner.TheVariants.{Sampler}
 use Rattle.records.specs.declared.types.VectorSize.TheVariants.{Quad}
 use Rattle.run.specs.Rules.{is_depth}
-use Rattle.run.specs.Types.{same_type, kind_in, count_in, is_float}
+use Rattle.run.specs.Types.{same_type}
 use Rattle.words.specs.Instructions.{and_then, check}
 use Rattle.words.specs.Opcodes.{row_of}
 use Rattle.words.specs.declared.instructions.Ids.{Ids}
 use Rattle.words.specs.declared.instructions.Instruction.{Instruction}
 use Rattle.words.specs.declared.opcodes.Layout.{Layout}
-use Rattle.words.specs.declared.opcodes.Layout.TheVariants.{Couple, Plain, Component, Reference, Write}
+use Rattle.words.specs.declared.opcodes.Layout.TheVariants.{Component}
 use Rattle.words.specs.declared.opcodes.OperandRule.{OperandRule}
 use Rattle.words.specs.declared.opcodes.OperandRule.TheVariants.{Never, Implicit, Explicit, Gather, Load, Store}
 use Rattle.words.specs.declared.operands.IdRef.{IdRef}
-use Rattle.memory.specs.Firsts.{first_equal}
 use Rattle.memory.specs.Lookups.{new_value, new_couple}
 use Rattle.memory.specs.Shelves.{Shelf}
-use Rattle.memory.specs.declared.found.FoundValue.{FoundValue}
 use Rattle.images.specs.declared.find.FoundResource.{FoundResource}
 use Rattle.images.specs.declared.instructions.Plan.{Plan}
 use Rattle.images.specs.declared.instructions.Plan.TheVariants as plans
@@ -53,7 +47,7 @@ use Rattle.images.specs.Used.{Used}
 use Rattle.images.specs.Finds.{inner_at, image_type, resource_at, component_at}
 use Rattle.images.specs.Operands.{value_of, type_of, optional, operands_for, operands_fit, bias_fits, handle_of}
 use Rattle.images.specs.Places.{place_fits, split_for}
-use Rattle.images.specs.Rules.{sampling_of, shape_of, sample_allows, load_allows, store_allows, coordinate_fits, sample_result, load_result_fits, stored_fits, vector_size, composed_size}
+use Rattle.images.specs.Rules.{sampling_of, shape_of, sample_allows, load_allows, store_allows, sample_result, load_result_fits, stored_fits, vector_size}
 
 -- images: 10, blaming the image or sampled image
 
@@ -69,11 +63,8 @@ new_result b r = check (not (new_value b r.id)) (InvalidResultId r.place)
 
 -- the component, of which a comparing gather takes the first
 abbrev pub gather_for : Used → Shelf → SamplingOptions → IdRef → Layout → Result (Option SwizzleComponent) Error
-gather_for u b o r Couple = Ok (cond o.gather (Some X) None)
-gather_for u b o r Plain = Ok (cond o.gather (Some X) None)
 gather_for u b o r Component = and_then (value_of u b r) (λ v. and_then (component_at u r.place v.handle) (λ c. Ok (Some c)))
-gather_for u b o r Reference = Ok (cond o.gather (Some X) None)
-gather_for u b o r Write = Ok (cond o.gather (Some X) None)
+gather_for u b o r _ = Ok (then_some o.gather X)
 
 abbrev pub reference_for : Used → Shelf → SamplingOptions → IdRef → Result (Option Operand) Error
 reference_for u b o r = cond o.compare (optional u b (Some r)) (Ok None)

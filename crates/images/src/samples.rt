@@ -133,14 +133,17 @@ impl SamplingOptions {
         if let Some(bias) = operands.bias {
             return SampleLevel::Bias(bias.value.handle);
         }
-        match (self.compare, operands.lod) {
-            (false, Some(lod)) => SampleLevel::Exact(lod.value.handle),
-            (false, None) => grad_level(operands.grad),
-            (true, Some(_)) => SampleLevel::Zero,
-            (true, None) => match operands.grad {
-                Some(_) => SampleLevel::Zero,
-                None => SampleLevel::Auto,
-            },
+        if self.compare {
+            let stated = operands.lod.is_some() || operands.grad.is_some();
+            return if stated {
+                SampleLevel::Zero
+            } else {
+                SampleLevel::Auto
+            };
+        }
+        match operands.lod {
+            Some(lod) => SampleLevel::Exact(lod.value.handle),
+            None => grad_level(operands.grad),
         }
     }
 
