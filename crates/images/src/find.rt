@@ -48,6 +48,7 @@ pub fn inner_at(lists: UsedLists<'_>, ty: TypeHandle) -> Result<TypeInner, Error
 
 // The type of the image of a load or store, whose word stands at a place: that of the variable or argument, also under
 // elements.
+#[tactic(auto, using(crate::proofs::Fuel::image_type_is))]
 pub fn get_image_expr_ty(
     lists: UsedLists<'_>,
     place: usize,

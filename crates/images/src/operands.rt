@@ -111,10 +111,7 @@ fn expect_typed<F: Fn(TypeInner) -> bool>(operand: Option<Operand>, right: F) ->
     ensures { MatchOption operand (result ≡ Ok tt) (λ o. (b : Bool) × F.post right o.value.inner b × (result ≡ typed_by b o)) }
 {
     match operand {
-        Some(operand) => expect(
-            right(operand.value.inner),
-            Error::InvalidOperand(operand.place),
-        ),
+        Some(Operand { value, place }) => expect(right(value.inner), Error::InvalidOperand(place)),
         None => Ok(()),
     }
 }

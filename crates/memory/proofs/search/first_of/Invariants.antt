@@ -1,7 +1,9 @@
 use Rattle.std.proofs.Common.{◌≡◌, drop}
-use Rattle.memory.specs.Firsts.{first_from, first_equal}
+use Rattle.std.specs.List.{position_from}
+use Rattle.run.specs.Types.{same_type}
+use Rattle.memory.specs.Firsts.{first_equal}
 use Rattle.memory.proofs.search.first_of.Given as goal
 
 -- what is left from here gives the whole
 abbrev pub invariant-loop-index : goal.invariant-loop-index
-invariant-loop-index l = first_from l.index l.ty (drop l.index l.types) ≡ first_equal l.ty l.types
+invariant-loop-index l = position_from (λ x. same_type x l.ty) l.index (drop l.index l.types) ≡ first_equal l.ty l.types
