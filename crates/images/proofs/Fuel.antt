@@ -9,7 +9,7 @@ use Rattle.records.specs.declared.handles.TypeHandle.{TypeHandle}
 use Rattle.records.specs.declared.expressions.Expression.{Expression}
 use Rattle.records.specs.declared.expressions.ExpressionTag.{ExpressionTag}
 use Rattle.records.specs.declared.expressions.ExpressionTag.TheVariants as tags
-use Rattle.words.specs.Instructions.{and_then}
+use Rattle.records.specs.Refusals.{and_then}
 use Rattle.images.specs.Used.{Used}
 use Rattle.images.specs.Finds.{image_type_by, image_type_in, image_type}
 

@@ -8,7 +8,7 @@ use Rattle.records.specs.declared.refusals.Error.TheVariants.{InvalidCoordinate,
 use Rattle.records.specs.declared.types.TypeInner.TheVariants.{Vector}
 use Rattle.records.specs.declared.types.VectorSize.{VectorSize}
 use Rattle.run.specs.Types.{kind_in, count_in, is_float}
-use Rattle.words.specs.Instructions.{and_then, check}
+use Rattle.records.specs.Refusals.{and_then, check}
 use Rattle.memory.specs.Firsts.{first_equal}
 use Rattle.images.specs.declared.places.ImagePlace.{ImagePlace}
 use Rattle.images.specs.declared.plans.ExtraCoordinate.{ExtraCoordinate}

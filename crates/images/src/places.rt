@@ -3,11 +3,10 @@ ghost use Rattle.std.specs.Prelude.{◌≡◌};
 ghost use Rattle.images.specs.Places.{has_more, extra_of, place_fits, composed, vector_for, split_for};
 ghost use Rattle.images.specs.Used.{used_of};
 
-use crate::expect::expect;
 use crate::options::{ImageShape, composed_size, coordinate_fits, place_size};
 use crate::plans::{ExtraCoordinate, Split};
 use memory::{BlockContext, FoundValue, IdBooks};
-use records::{Error, TypeHandle, TypeInner, VectorSize};
+use records::{Error, TypeHandle, TypeInner, VectorSize, expect};
 use run::{count_in, is_float, kind_in};
 
 #[derive(Clone, Copy)]

@@ -1,7 +1,7 @@
 // The names from before `IdBooks` and `BlockContext`, until the reader is written over them.
 ghost use Rattle.std.specs.Prelude.{◌≡◌, length, not, take};
 ghost use Rattle.records.specs.declared.refusals.Error.TheVariants.{InvalidResultId};
-ghost use Rattle.words.specs.Instructions.{check};
+ghost use Rattle.records.specs.Refusals.{check};
 ghost use Rattle.memory.specs.Firsts.{first_equal};
 ghost use Rattle.memory.specs.Shelves.{shelf_of};
 ghost use Rattle.memory.specs.Lookups.{type_for, value_for, new_type, new_value, new_couple};

@@ -5,7 +5,6 @@ ghost use Rattle.memory.specs.Firsts.{first_equal};
 use crate::context::BlockContext;
 use crate::id_books::IdBooks;
 use records::TypeInner;
-use run::same_type;
 
 // The number of the first record that is equal to a type.
 pub(crate) fn first_of(types: &[TypeInner], ty: TypeInner) -> Option<u32>
@@ -13,7 +12,7 @@ pub(crate) fn first_of(types: &[TypeInner], ty: TypeInner) -> Option<u32>
     ensures { result ≡ first_equal ty types.now }
 {
     for (index, other) in types.iter().enumerate() {
-        if same_type(*other, ty) {
+        if *other == ty {
             return Some(index as u32);
         }
     }

@@ -1,6 +1,6 @@
 use Rattle.std.proofs.Common.{◌≡◌, drop}
 use Rattle.std.specs.List.{position_from}
-use Rattle.run.specs.Types.{same_type}
+use Rattle.records.specs.Types.{same_type}
 use Rattle.memory.specs.Firsts.{first_equal}
 use Rattle.memory.proofs.search.first_of.Given as goal
 
