@@ -29,26 +29,44 @@ pub struct ImageShape {
     pub class: ImageClass,
 }
 
+fn projects(opcode: Opcode) -> bool
+    ensures { result ≡ (sampling_of opcode).project }
+{
+    matches!(
+        opcode,
+        Opcode::ImageSampleProjImplicitLod
+            | Opcode::ImageSampleProjExplicitLod
+            | Opcode::ImageSampleProjDrefImplicitLod
+            | Opcode::ImageSampleProjDrefExplicitLod
+    )
+}
+
+fn compares(opcode: Opcode) -> bool
+    ensures { result ≡ (sampling_of opcode).compare }
+{
+    matches!(
+        opcode,
+        Opcode::ImageSampleDrefImplicitLod
+            | Opcode::ImageSampleDrefExplicitLod
+            | Opcode::ImageSampleProjDrefImplicitLod
+            | Opcode::ImageSampleProjDrefExplicitLod
+            | Opcode::ImageDrefGather
+    )
+}
+
+fn gathers(opcode: Opcode) -> bool
+    ensures { result ≡ (sampling_of opcode).gather }
+{
+    matches!(opcode, Opcode::ImageGather | Opcode::ImageDrefGather)
+}
+
 pub fn sampling_of(opcode: Opcode) -> SamplingOptions
     ensures { result ≡ sampling_of opcode }
 {
     SamplingOptions {
-        project: matches!(
-            opcode,
-            Opcode::ImageSampleProjImplicitLod
-                | Opcode::ImageSampleProjExplicitLod
-                | Opcode::ImageSampleProjDrefImplicitLod
-                | Opcode::ImageSampleProjDrefExplicitLod
-        ),
-        compare: matches!(
-            opcode,
-            Opcode::ImageSampleDrefImplicitLod
-                | Opcode::ImageSampleDrefExplicitLod
-                | Opcode::ImageSampleProjDrefImplicitLod
-                | Opcode::ImageSampleProjDrefExplicitLod
-                | Opcode::ImageDrefGather
-        ),
-        gather: matches!(opcode, Opcode::ImageGather | Opcode::ImageDrefGather),
+        project: projects(opcode),
+        compare: compares(opcode),
+        gather: gathers(opcode),
     }
 }
 
