@@ -1,5 +1,5 @@
 -- Which image and sampler an instruction means, and which component it gathers.
-use Rattle.std.specs.Prelude.{ℕ, zero, suc, cond, Some, None, Ok, Err, Option, Result, ◌==◌, nat_lt}
+use Rattle.std.specs.Prelude.{ℕ, zero, suc, cond, None, Ok, Err, Option, Result, nat_lt}
 use Rattle.std.specs.List.{slice_get}
 use Rattle.std.specs.Option.{ok_or, option_map}
 use Rattle.records.specs.declared.constants.Constant.{Constant}
@@ -9,7 +9,6 @@ use Rattle.records.specs.declared.expressions.Expression.{Expression}
 use Rattle.records.specs.declared.expressions.ExpressionTag.{ExpressionTag}
 use Rattle.records.specs.declared.expressions.ExpressionTag.TheVariants as tags
 use Rattle.records.specs.declared.expressions.SwizzleComponent.{SwizzleComponent}
-use Rattle.records.specs.declared.expressions.SwizzleComponent.TheVariants.{X, Y, Z, W}
 use Rattle.records.specs.declared.handles.ExpressionHandle.{ExpressionHandle}
 use Rattle.records.specs.declared.handles.FunctionArgumentHandle.{FunctionArgumentHandle}
 use Rattle.records.specs.declared.handles.GlobalVariableHandle.{GlobalVariableHandle}
@@ -22,7 +21,8 @@ use Rattle.records.specs.declared.variables.FunctionArgument.{FunctionArgument}
 use Rattle.units.specs.Arithmetic.{sint_to_bits}
 use Rattle.units.specs.declared.values.Root.{Root}
 use Rattle.units.specs.declared.values.Root.TheVariants.{Variable, Argument}
-use Rattle.words.specs.Instructions.{and_then}
+use Rattle.records.specs.Numbers.{component_numbered}
+use Rattle.records.specs.Refusals.{and_then}
 use Rattle.images.specs.declared.find.FoundResource.{FoundResource}
 use Rattle.images.specs.Rules.{array_base}
 use Rattle.images.specs.Used.{Used}
@@ -47,18 +47,8 @@ inner_at u h = ok_or (slice_get u.types h.index) Mismatch
 abbrev pub image_type_by : (ℕ → Result TypeHandle Error) → Used → ℕ → ℕ → Expression → ExpressionTag → Result TypeHandle Error
 image_type_by below u place h e tags.GlobalVariable = variable_type u e.variable
 image_type_by below u place h e tags.FunctionArgument = argument_type u e.argument
-image_type_by below u place h e tags.Constant = Err (InvalidImageExpression place)
-image_type_by below u place h e tags.Supplied = Err (InvalidImageExpression place)
 image_type_by below u place h e tags.Access = cond (nat_lt e.base.index h) (below e.base.index) (Err Mismatch)
-image_type_by below u place h e tags.AccessIndex = Err (InvalidImageExpression place)
-image_type_by below u place h e tags.Compose = Err (InvalidImageExpression place)
-image_type_by below u place h e tags.Splat = Err (InvalidImageExpression place)
-image_type_by below u place h e tags.Swizzle = Err (InvalidImageExpression place)
-image_type_by below u place h e tags.Divide = Err (InvalidImageExpression place)
-image_type_by below u place h e tags.Round = Err (InvalidImageExpression place)
-image_type_by below u place h e tags.As = Err (InvalidImageExpression place)
-image_type_by below u place h e tags.ImageSample = Err (InvalidImageExpression place)
-image_type_by below u place h e tags.ImageLoad = Err (InvalidImageExpression place)
+image_type_by below u place h e _ = Err (InvalidImageExpression place)
 
 unfoldable pub image_type_in : ℕ → Used → ℕ → ℕ → Result TypeHandle Error
 image_type_in zero u place h = Err Mismatch
@@ -81,43 +71,18 @@ element_of u place e tags.GlobalVariable =
     and_then (inner_at u h) (λ t.
     and_then (ok_or (array_base t) (InvalidGlobalVar place)) (λ b.
     resource u (Variable e.variable) b)))
-element_of u place e tags.FunctionArgument = Err (InvalidGlobalVar place)
-element_of u place e tags.Constant = Err (InvalidGlobalVar place)
-element_of u place e tags.Supplied = Err (InvalidGlobalVar place)
-element_of u place e tags.Access = Err (InvalidGlobalVar place)
-element_of u place e tags.AccessIndex = Err (InvalidGlobalVar place)
-element_of u place e tags.Compose = Err (InvalidGlobalVar place)
-element_of u place e tags.Splat = Err (InvalidGlobalVar place)
-element_of u place e tags.Swizzle = Err (InvalidGlobalVar place)
-element_of u place e tags.Divide = Err (InvalidGlobalVar place)
-element_of u place e tags.Round = Err (InvalidGlobalVar place)
-element_of u place e tags.As = Err (InvalidGlobalVar place)
-element_of u place e tags.ImageSample = Err (InvalidGlobalVar place)
-element_of u place e tags.ImageLoad = Err (InvalidGlobalVar place)
+element_of u place e _ = Err (InvalidGlobalVar place)
 
 abbrev pub resource_by : Used → ℕ → Expression → ExpressionTag → Result FoundResource Error
 resource_by u place e tags.GlobalVariable = and_then (variable_type u e.variable) (λ h. resource u (Variable e.variable) h)
 resource_by u place e tags.FunctionArgument = and_then (argument_type u e.argument) (λ h. resource u (Argument e.argument) h)
-resource_by u place e tags.Constant = Err (InvalidGlobalVar place)
-resource_by u place e tags.Supplied = Err (InvalidGlobalVar place)
 resource_by u place e tags.Access = and_then (expression_at u e.base) (λ b. element_of u place b b.tag)
-resource_by u place e tags.AccessIndex = Err (InvalidGlobalVar place)
-resource_by u place e tags.Compose = Err (InvalidGlobalVar place)
-resource_by u place e tags.Splat = Err (InvalidGlobalVar place)
-resource_by u place e tags.Swizzle = Err (InvalidGlobalVar place)
-resource_by u place e tags.Divide = Err (InvalidGlobalVar place)
-resource_by u place e tags.Round = Err (InvalidGlobalVar place)
-resource_by u place e tags.As = Err (InvalidGlobalVar place)
-resource_by u place e tags.ImageSample = Err (InvalidGlobalVar place)
-resource_by u place e tags.ImageLoad = Err (InvalidGlobalVar place)
+resource_by u place e _ = Err (InvalidGlobalVar place)
 
 abbrev pub resource_at : Used → ℕ → ExpressionHandle → Result FoundResource Error
 resource_at u place h = and_then (expression_at u h) (λ e. resource_by u place e e.tag)
 
 -- The component of a gather is an integer constant from 0 to 3, by its bits; else 7.
-
-abbrev pub component_numbered : ℕ → Option SwizzleComponent
-component_numbered n = cond (n == 0) (Some X) (cond (n == 1) (Some Y) (cond (n == 2) (Some Z) (cond (n == 3) (Some W) None)))
 
 abbrev pub component_of : Literal → Option SwizzleComponent
 component_of (U32 n) = component_numbered n
@@ -130,20 +95,8 @@ component_constant u place e =
     ok_or (component_of l) (InvalidOperand place))
 
 abbrev pub component_by : Used → ℕ → Expression → ExpressionTag → Result SwizzleComponent Error
-component_by u place e tags.GlobalVariable = Err (InvalidOperand place)
-component_by u place e tags.FunctionArgument = Err (InvalidOperand place)
 component_by u place e tags.Constant = component_constant u place e
-component_by u place e tags.Supplied = Err (InvalidOperand place)
-component_by u place e tags.Access = Err (InvalidOperand place)
-component_by u place e tags.AccessIndex = Err (InvalidOperand place)
-component_by u place e tags.Compose = Err (InvalidOperand place)
-component_by u place e tags.Splat = Err (InvalidOperand place)
-component_by u place e tags.Swizzle = Err (InvalidOperand place)
-component_by u place e tags.Divide = Err (InvalidOperand place)
-component_by u place e tags.Round = Err (InvalidOperand place)
-component_by u place e tags.As = Err (InvalidOperand place)
-component_by u place e tags.ImageSample = Err (InvalidOperand place)
-component_by u place e tags.ImageLoad = Err (InvalidOperand place)
+component_by u place e _ = Err (InvalidOperand place)
 
 abbrev pub component_at : Used → ℕ → ExpressionHandle → Result SwizzleComponent Error
 component_at u place h = and_then (expression_at u h) (λ e. component_by u place e e.tag)

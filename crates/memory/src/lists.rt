@@ -27,14 +27,10 @@ pub struct Counts {
 }
 
 // The first cells of a list, or all where there are fewer.
-pub(crate) fn front<T>(cells: &[T], count: u32) -> &[T]
+fn front<T>(cells: &[T], count: u32) -> &[T]
     ensures { result.now ≡ take count cells.now }
 {
-    if (count as usize) < cells.len() {
-        &cells[0..count as usize]
-    } else {
-        cells
-    }
+    cells.get(..count as usize).unwrap_or(cells)
 }
 
 // Whether some more records fit into a list: a cell is free if it is lent, not used and below the limit.
