@@ -1,5 +1,5 @@
 -- What the checks of declaring leave to know: there is room for every record, and the id is new.
-use Rattle.std.proofs.Common.{◌≡◌, ℕ, ◌+◌, ◌≤◌, Bool, true, not, ◌&&◌, leb, length, Some, None, Ok, Option, Result, sym, ap, ◌∙◌}
+use Rattle.std.proofs.Common.{◌≡◌, ℕ, ◌≤◌, Bool, true, not, ◌&&◌, leb, Some, None, Ok, Option, Result, sym, ap, ◌∙◌}
 use Rattle.records.specs.declared.refusals.Error.{Error}
 use Rattle.records.specs.declared.refusals.Error.TheVariants.{InvalidResultId, Full, Mismatch}
 use Rattle.books.specs.Books.{taken}
@@ -14,12 +14,13 @@ use Rattle.reader.specs.Checks.{state_inside, range_inside, value_room, value_ch
 use Rattle.memory.specs.Firsts.{first_equal}
 use Rattle.reader.specs.Types.{inner_of}
 use Rattle.reader.specs.Declares.{type_checks, type_room}
+use Rattle.reader.specs.Writes.{RoomIn}
 use Rattle.reader.proofs.Passed.{passed, same_ok, expect_ok, both_left, both_right, room_cells}
 
 pub record TypeReady (c : Cells) (b : Shelf) (id : ℕ) (p : TypePlan) : Type 0 where
   pub new : not (taken b.types id) ≡ true
   pub space : has_space b.types ≡ true
-  pub room : p.found ≡ None → (c.types.count + 1 ≤ length c.types.cells) × (c.types.count + 1 ≤ max_types)
+  pub room : p.found ≡ None → RoomIn c.types.cells c.types.count 1 max_types
 
 pub type_ready : (c : Cells) (b : Shelf) (id : ℕ) (d : TypeDeclaration) (p : TypePlan) → type_checks c b id d ≡ Ok p → TypeReady c b id p
 type_ready c b id d p is =
@@ -45,7 +46,7 @@ pub record ValueReady {X : Type 0} (emitter : Option ℕ) (c : Cells) (b : Shelf
   pub new : not (taken b.values id) ≡ true
   pub is : found ≡ Ok x
   pub own_room : own ≡ true
-  pub room : (c.expressions.count + 1 ≤ length c.expressions.cells) × (c.expressions.count + 1 ≤ max_expressions)
+  pub room : RoomIn c.expressions.cells c.expressions.count 1 max_expressions
   pub space : has_space b.values ≡ true
 
 pub value_ready : {X : Type 0} (emitter : Option ℕ) (c : Cells) (b : Shelf) (id : ℕ) (found : Result X Error) (own : Bool) (x : X)

@@ -7,6 +7,7 @@ use Rattle.books.specs.Books.{Book, taken, count, Puts}
 use Rattle.words.specs.Instructions.{and_then, check}
 use Rattle.memory.specs.Cells.{Filled, room_for}
 use Rattle.memory.specs.Lookups.{has_space}
+use Rattle.reader.specs.Writes.{RoomIn}
 
 never_ok : {X : Type 0} (e : Error) (x : X) → Err e ≡ Ok x → ⊥
 never_ok e x is = false≢true (ap is_ok is)
@@ -50,10 +51,10 @@ both_right true b is = is
 both_right false b is = absurd (false≢true is)
 
 -- where n more records fit, the next n cells are there, and below the limit
-pub room_cells : {X : Type 0} (n : ℕ) (f : Filled X) (limit : ℕ) → room_for n f limit ≡ true → (f.count + n ≤ length f.cells) × (f.count + n ≤ limit)
+pub room_cells : {X : Type 0} (n : ℕ) (f : Filled X) (limit : ℕ) → room_for n f limit ≡ true → RoomIn f.cells f.count n limit
 room_cells n f limit is =
     let h : f.count + n ≤ min (length f.cells) limit = leb-true _ _ is in
-    (omega arith, omega arith)
+    record { lent = omega arith; below = omega arith }
 
 -- a put of a new id into a book with space is accepted
 pub put_ok : {S R : Type 0} (book : S → Book R) (from to : S) (id : ℕ) (item : R) (r : Result (Unit {0}) Error)

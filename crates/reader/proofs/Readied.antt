@@ -1,5 +1,5 @@
 -- What is known where all checks of an instruction have passed: there is room for every record, and a new id is new.
-use Rattle.std.proofs.Common.{◌≡◌, ℕ, ◌+◌, ◌≤◌, true, not, ◌&&◌, List, length, Ok, Option, sym, ap, ◌∙◌, subst}
+use Rattle.std.proofs.Common.{◌≡◌, ℕ, ◌+◌, true, not, ◌&&◌, List, Ok, Option, sym, ap, ◌∙◌, subst}
 use Rattle.records.specs.declared.refusals.Error.TheVariants.{InvalidResultId, Full, Mismatch}
 use Rattle.books.specs.Books.{taken}
 use Rattle.words.specs.Instructions.{check, instruction}
@@ -23,6 +23,7 @@ use Rattle.reader.specs.declared.read.ReadPlan.{ReadPlan}
 use Rattle.reader.specs.States.{State}
 use Rattle.reader.specs.Checks.{max_expressions, max_statements, state_inside, by_checks}
 use Rattle.reader.specs.Reads.{store_cells, store_room, plan_room, read_checks, plan_step, reads}
+use Rattle.reader.specs.Writes.{RoomIn}
 use Rattle.reader.proofs.Passed.{passed, same_ok, expect_ok, both_left, both_right, room_cells}
 
 -- the id of a result is new in its own book
@@ -103,13 +104,15 @@ module _ (emitter : Option ℕ) (c : Cells) (b : Shelf) (words : List ℕ) (r : 
   pub record ValuesReady (n : ℕ) : Type 0 where
     pub new : not (taken b.values r.id) ≡ true
     pub space : has_space b.values ≡ true
-    pub inside : c.expressions.count + n ≤ length c.expressions.cells
-    pub limit : c.expressions.count + n ≤ 65536
+    pub room : RoomIn c.expressions.cells c.expressions.count n max_expressions
 
   values_ready : (n : ℕ) → not (taken b.values r.id) ≡ true → (room_for n c.expressions max_expressions && has_space b.values) ≡ true → ValuesReady n
   values_ready n new room =
-      let cells = room_cells n c.expressions max_expressions (both_left _ (has_space b.values) room) in
-      record { new = new; space = both_right (room_for n c.expressions max_expressions) _ room; inside = cells.0; limit = cells.1 }
+      record {
+        new = new;
+        space = both_right (room_for n c.expressions max_expressions) _ room;
+        room = room_cells n c.expressions max_expressions (both_left _ (has_space b.values) room);
+      }
 
   pub sample_ready : (p : SamplePlan) → r.plan ≡ plans.Sample p → ValuesReady (sample_count p)
   sample_ready p is = values_ready (sample_count p) (subst (NewFor b r.id) is ready.new) (ap (plan_room emitter c b) (sym is) ∙ ready.room)
@@ -118,15 +121,14 @@ module _ (emitter : Option ℕ) (c : Cells) (b : Shelf) (words : List ℕ) (r : 
   load_ready p is = values_ready (load_count p) (subst (NewFor b r.id) is ready.new) (ap (plan_room emitter c b) (sym is) ∙ ready.room)
 
   pub record StoreReady (p : StorePlan) : Type 0 where
-    pub inside : c.expressions.count + store_count p ≤ length c.expressions.cells
-    pub limit : c.expressions.count + store_count p ≤ 65536
-    pub cells : c.statements.count + store_cells emitter (c.expressions.count + store_count p) ≤ length c.statements.cells
-    pub few : c.statements.count + store_cells emitter (c.expressions.count + store_count p) ≤ 65536
+    pub room : RoomIn c.expressions.cells c.expressions.count (store_count p) max_expressions
+    pub cells : RoomIn c.statements.cells c.statements.count (store_cells emitter (c.expressions.count + store_count p)) max_statements
 
   pub store_ready : (p : StorePlan) → r.plan ≡ plans.Store p → StoreReady p
   store_ready p is =
       let n = store_cells emitter (c.expressions.count + store_count p) in
       let room : store_room emitter c p ≡ true = ap (plan_room emitter c b) (sym is) ∙ ready.room in
-      let one = room_cells (store_count p) c.expressions max_expressions (both_left _ (room_for n c.statements max_statements) room) in
-      let two = room_cells n c.statements max_statements (both_right (room_for (store_count p) c.expressions max_expressions) _ room) in
-      record { inside = one.0; limit = one.1; cells = two.0; few = two.1 }
+      record {
+        room = room_cells (store_count p) c.expressions max_expressions (both_left _ (room_for n c.statements max_statements) room);
+        cells = room_cells n c.statements max_statements (both_right (room_for (store_count p) c.expressions max_expressions) _ room);
+      }

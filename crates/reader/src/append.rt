@@ -1,42 +1,45 @@
 // Room for one value more, and its append.
-ghost use Rattle.std.specs.Prelude.{◌≡◌, ◌<◌, true, not, ◌&&◌, length, slice_set};
+ghost use Rattle.std.specs.Prelude.{◌≡◌, true, not, ◌&&◌, slice_set};
 ghost use Rattle.books.specs.Books.{taken, added};
 ghost use Rattle.memory.specs.Lookups.{has_space};
-ghost use Rattle.reader.specs.Checks.{value_room};
 ghost use Rattle.memory.specs.Cells.{cells_of};
 ghost use Rattle.memory.specs.Shelves.{shelf_of};
 ghost use Rattle.records.specs.declared.refusals.Error.TheVariants.{Full};
 ghost use Rattle.words.specs.Instructions.{check};
 ghost use Rattle.reader.specs.Updates.{lookup_at};
+ghost use Rattle.reader.specs.Checks.{max_expressions, value_room};
+ghost use Rattle.reader.specs.Writes.{RoomIn};
 
+use crate::arena::Arena;
 use books::LookupHelper;
 use memory::{Books, Counts, Lists, has_room, has_space};
 use records::{
-    Error, Expression, ExpressionHandle, LookupExpression, LookupSampledImage, LookupType,
-    MAX_EXPRESSIONS, TypeHandle,
+    Error, Expression, LookupExpression, LookupSampledImage, LookupType, MAX_EXPRESSIONS,
+    TypeHandle,
 };
 
-// Appends an expression, of which there are `count`, and has a new id name it.
+// Appends an expression, and has a new id name it.
 pub(crate) fn append_value<V: LookupHelper<LookupExpression>>(
     expressions: &mut [Expression],
+    used: u32,
     values: &mut V,
-    count: u32,
     id: u32,
     expression: Expression,
     ty: TypeHandle,
 ) -> LookupExpression
-    requires room { count < length expressions.old }
+    requires room { RoomIn expressions.old used 1 max_expressions }
     requires new { not (taken (V.LookupHelper.book values.old) id) ≡ true }
     requires space { has_space (V.LookupHelper.book values.old) ≡ true }
-    ensures value { result ≡ lookup_at count ty }
-    ensures appended { expressions.new ≡ slice_set expressions.old count expression }
-    ensures named { V.LookupHelper.book values.new ≡ added (V.LookupHelper.book values.old) id (lookup_at count ty) }
+    ensures value { result ≡ lookup_at used ty }
+    ensures appended { expressions.new ≡ slice_set expressions.old used expression }
+    ensures named { V.LookupHelper.book values.new ≡ added (V.LookupHelper.book values.old) id (lookup_at used ty) }
 {
-    let lookup = LookupExpression {
-        handle: ExpressionHandle { index: count },
-        ty,
+    let mut arena = Arena {
+        cells: expressions,
+        used,
     };
-    expressions[count as usize] = expression;
+    let handle = arena.append(expression);
+    let lookup = LookupExpression { handle, ty };
     values.put(id, lookup).unwrap();
     lookup
 }

@@ -134,8 +134,8 @@ impl Reading {
         let Reading { counts, emitter } = self;
         let lookup = append_value(
             lists.expressions,
-            &mut books.values,
             counts.expressions,
+            &mut books.values,
             id,
             Expression::supplied(ty, counts.brought),
             ty,
@@ -171,8 +171,8 @@ impl Reading {
         let Reading { counts, emitter } = self;
         let lookup = append_value(
             lists.expressions,
-            &mut books.values,
             counts.expressions,
+            &mut books.values,
             id,
             Expression::access(element.base, element.index),
             element.ty,

@@ -239,8 +239,8 @@ impl AtRest {
         lists.variables[counts.variables as usize] = GlobalVariable { ty, flags: 0 };
         let lookup = append_value(
             lists.expressions,
-            &mut books.values,
             counts.expressions,
+            &mut books.values,
             id,
             expression,
             ty,
@@ -279,8 +279,8 @@ impl AtRest {
         lists.arguments[counts.arguments as usize] = FunctionArgument { ty, flags: 0 };
         let lookup = append_value(
             lists.expressions,
-            &mut books.values,
             counts.expressions,
+            &mut books.values,
             id,
             expression,
             ty,
@@ -320,8 +320,8 @@ impl AtRest {
         lists.constants[counts.constants as usize] = Constant { ty, value: literal };
         let lookup = append_value(
             lists.expressions,
-            &mut books.values,
             counts.expressions,
+            &mut books.values,
             id,
             expression,
             ty,

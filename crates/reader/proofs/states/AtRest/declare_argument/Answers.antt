@@ -1,4 +1,4 @@
-use Rattle.std.proofs.Common.{None, sym, arith}
+use Rattle.std.proofs.Common.{None, sym}
 use Rattle.memory.specs.Shelves.{Shelf, shelf_of}
 use Rattle.memory.specs.Cells.{Cells, used, room_for, cells_of}
 use Rattle.reader.specs.Checks.{max_arguments}
@@ -21,4 +21,4 @@ ready g c = value_ready None (cells g c) (books g c) c.args.id _ _ c.in-Ok.ty (s
 pub append_value-lookup-requires : goal.append_value-lookup-requires
 append_value-lookup-requires g c =
     let r = ready g (goal.at.append_value-lookup-requires g c).In-Ok in
-    record { room = let h = r.room in omega arith; new = r.new; space = r.space }
+    record { room = r.room; new = r.new; space = r.space }

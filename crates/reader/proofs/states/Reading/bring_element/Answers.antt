@@ -1,4 +1,4 @@
-use Rattle.std.proofs.Common.{true, length, Some, sym, arith}
+use Rattle.std.proofs.Common.{true, length, Some, sym}
 use Rattle.memory.specs.Shelves.{Shelf, shelf_of}
 use Rattle.memory.specs.Cells.{Cells, used, cells_of}
 use Rattle.reader.specs.Brings.{element_for}
@@ -20,4 +20,4 @@ ready g c = value_ready (Some c.args.self.emitter.start_len) (cells g c) (books 
 pub append_value-lookup-requires : goal.append_value-lookup-requires
 append_value-lookup-requires g c =
     let r = ready g (goal.at.append_value-lookup-requires g c).In-Ok in
-    record { room = let h = r.room in omega arith; new = r.new; space = r.space }
+    record { room = r.room; new = r.new; space = r.space }

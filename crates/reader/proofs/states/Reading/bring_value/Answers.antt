@@ -20,7 +20,7 @@ ready g c = value_ready (Some c.args.self.emitter.start_len) (cells g c) (books 
 pub append_value-lookup-requires : goal.append_value-lookup-requires
 append_value-lookup-requires g c =
     let r = ready g (goal.at.append_value-lookup-requires g c).In-Ok in
-    record { room = let h = r.room in omega arith; new = r.new; space = r.space }
+    record { room = r.room; new = r.new; space = r.space }
 
 pub overflow_add-counts : goal.overflow_add-counts
 overflow_add-counts g c =

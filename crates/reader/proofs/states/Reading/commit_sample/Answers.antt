@@ -9,7 +9,7 @@ returns g c =
       variables = c.args.self.counts.variables;
       arguments = c.args.self.counts.arguments;
       constants = c.args.self.counts.constants;
-      expressions = c.args.self.counts.expressions + c.count-2.result;
+      expressions = c.args.self.counts.expressions + c.count.result;
       statements = c.args.self.counts.statements;
       brought = c.args.self.counts.brought;
     } in

@@ -42,19 +42,19 @@ pub commit_sample-requires : goal.commit_sample-requires
 commit_sample-requires g c =
     let d = (goal.at.commit_sample-requires g c).In-Ok in
     let r = sample_ready (emitter g d) (cells g d) (books g d) (words g d) d.in-Ok.planned (ready g d) c.in-Sample.plan c.in-Sample.is in
-    record { inside = r.inside; limit = r.limit; new = r.new; space = r.space }
+    record { room = r.room; new = r.new; space = r.space }
 
 pub commit_load-requires : goal.commit_load-requires
 commit_load-requires g c =
     let d = (goal.at.commit_load-requires g c).In-Ok in
     let r = load_ready (emitter g d) (cells g d) (books g d) (words g d) d.in-Ok.planned (ready g d) c.in-Load.plan c.in-Load.is in
-    record { inside = r.inside; limit = r.limit; new = r.new; space = r.space }
+    record { room = r.room; new = r.new; space = r.space }
 
 pub commit_store-reader-requires : goal.commit_store-reader-requires
 commit_store-reader-requires g c =
     let d = (goal.at.commit_store-reader-requires g c).In-Ok in
     let r = store_ready (emitter g d) (cells g d) (books g d) (words g d) d.in-Ok.planned (ready g d) c.in-Store.plan c.in-Store.is in
-    record { inside = r.inside; limit = r.limit; cells = r.cells; few = r.few }
+    record { room = r.room; cells = r.cells }
 
 -- the step of a plan that passed all checks is that of the words
 step_of : (g : given.Over) (c : In-Ok g) (p : Plan) → c.in-Ok.planned.plan ≡ p → plan_step (found g c) c.in-Ok.planned.id p ≡ reads (found g c) (words g c)
