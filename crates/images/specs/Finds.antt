@@ -47,18 +47,8 @@ inner_at u h = ok_or (slice_get u.types h.index) Mismatch
 abbrev pub image_type_by : (ℕ → Result TypeHandle Error) → Used → ℕ → ℕ → Expression → ExpressionTag → Result TypeHandle Error
 image_type_by below u place h e tags.GlobalVariable = variable_type u e.variable
 image_type_by below u place h e tags.FunctionArgument = argument_type u e.argument
-image_type_by below u place h e tags.Constant = Err (InvalidImageExpression place)
-image_type_by below u place h e tags.Supplied = Err (InvalidImageExpression place)
 image_type_by below u place h e tags.Access = cond (nat_lt e.base.index h) (below e.base.index) (Err Mismatch)
-image_type_by below u place h e tags.AccessIndex = Err (InvalidImageExpression place)
-image_type_by below u place h e tags.Compose = Err (InvalidImageExpression place)
-image_type_by below u place h e tags.Splat = Err (InvalidImageExpression place)
-image_type_by below u place h e tags.Swizzle = Err (InvalidImageExpression place)
-image_type_by below u place h e tags.Divide = Err (InvalidImageExpression place)
-image_type_by below u place h e tags.Round = Err (InvalidImageExpression place)
-image_type_by below u place h e tags.As = Err (InvalidImageExpression place)
-image_type_by below u place h e tags.ImageSample = Err (InvalidImageExpression place)
-image_type_by below u place h e tags.ImageLoad = Err (InvalidImageExpression place)
+image_type_by below u place h e _ = Err (InvalidImageExpression place)
 
 unfoldable pub image_type_in : ℕ → Used → ℕ → ℕ → Result TypeHandle Error
 image_type_in zero u place h = Err Mismatch
@@ -81,35 +71,13 @@ element_of u place e tags.GlobalVariable =
     and_then (inner_at u h) (λ t.
     and_then (ok_or (array_base t) (InvalidGlobalVar place)) (λ b.
     resource u (Variable e.variable) b)))
-element_of u place e tags.FunctionArgument = Err (InvalidGlobalVar place)
-element_of u place e tags.Constant = Err (InvalidGlobalVar place)
-element_of u place e tags.Supplied = Err (InvalidGlobalVar place)
-element_of u place e tags.Access = Err (InvalidGlobalVar place)
-element_of u place e tags.AccessIndex = Err (InvalidGlobalVar place)
-element_of u place e tags.Compose = Err (InvalidGlobalVar place)
-element_of u place e tags.Splat = Err (InvalidGlobalVar place)
-element_of u place e tags.Swizzle = Err (InvalidGlobalVar place)
-element_of u place e tags.Divide = Err (InvalidGlobalVar place)
-element_of u place e tags.Round = Err (InvalidGlobalVar place)
-element_of u place e tags.As = Err (InvalidGlobalVar place)
-element_of u place e tags.ImageSample = Err (InvalidGlobalVar place)
-element_of u place e tags.ImageLoad = Err (InvalidGlobalVar place)
+element_of u place e _ = Err (InvalidGlobalVar place)
 
 abbrev pub resource_by : Used → ℕ → Expression → ExpressionTag → Result FoundResource Error
 resource_by u place e tags.GlobalVariable = and_then (variable_type u e.variable) (λ h. resource u (Variable e.variable) h)
 resource_by u place e tags.FunctionArgument = and_then (argument_type u e.argument) (λ h. resource u (Argument e.argument) h)
-resource_by u place e tags.Constant = Err (InvalidGlobalVar place)
-resource_by u place e tags.Supplied = Err (InvalidGlobalVar place)
 resource_by u place e tags.Access = and_then (expression_at u e.base) (λ b. element_of u place b b.tag)
-resource_by u place e tags.AccessIndex = Err (InvalidGlobalVar place)
-resource_by u place e tags.Compose = Err (InvalidGlobalVar place)
-resource_by u place e tags.Splat = Err (InvalidGlobalVar place)
-resource_by u place e tags.Swizzle = Err (InvalidGlobalVar place)
-resource_by u place e tags.Divide = Err (InvalidGlobalVar place)
-resource_by u place e tags.Round = Err (InvalidGlobalVar place)
-resource_by u place e tags.As = Err (InvalidGlobalVar place)
-resource_by u place e tags.ImageSample = Err (InvalidGlobalVar place)
-resource_by u place e tags.ImageLoad = Err (InvalidGlobalVar place)
+resource_by u place e _ = Err (InvalidGlobalVar place)
 
 abbrev pub resource_at : Used → ℕ → ExpressionHandle → Result FoundResource Error
 resource_at u place h = and_then (expression_at u h) (λ e. resource_by u place e e.tag)
@@ -130,20 +98,8 @@ component_constant u place e =
     ok_or (component_of l) (InvalidOperand place))
 
 abbrev pub component_by : Used → ℕ → Expression → ExpressionTag → Result SwizzleComponent Error
-component_by u place e tags.GlobalVariable = Err (InvalidOperand place)
-component_by u place e tags.FunctionArgument = Err (InvalidOperand place)
 component_by u place e tags.Constant = component_constant u place e
-component_by u place e tags.Supplied = Err (InvalidOperand place)
-component_by u place e tags.Access = Err (InvalidOperand place)
-component_by u place e tags.AccessIndex = Err (InvalidOperand place)
-component_by u place e tags.Compose = Err (InvalidOperand place)
-component_by u place e tags.Splat = Err (InvalidOperand place)
-component_by u place e tags.Swizzle = Err (InvalidOperand place)
-component_by u place e tags.Divide = Err (InvalidOperand place)
-component_by u place e tags.Round = Err (InvalidOperand place)
-component_by u place e tags.As = Err (InvalidOperand place)
-component_by u place e tags.ImageSample = Err (InvalidOperand place)
-component_by u place e tags.ImageLoad = Err (InvalidOperand place)
+component_by u place e _ = Err (InvalidOperand place)
 
 abbrev pub component_at : Used → ℕ → ExpressionHandle → Result SwizzleComponent Error
 component_at u place h = and_then (expression_at u h) (λ e. component_by u place e e.tag)

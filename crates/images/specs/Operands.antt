@@ -1,10 +1,11 @@
 -- The operands after a mask: looked up, and held to their types.
 use Rattle.std.specs.Prelude.{Bool, cond, not, length, Some, None, Ok, Option, Result}
-use Rattle.std.specs.Option.{option_map}
+use Rattle.std.specs.Option.{option_map, option_transpose}
 use Rattle.records.specs.declared.handles.ExpressionHandle.{ExpressionHandle}
 use Rattle.records.specs.declared.refusals.Error.{Error}
 use Rattle.records.specs.declared.refusals.Error.TheVariants.{InvalidOperand}
 use Rattle.records.specs.declared.types.ImageDimension.{ImageDimension}
+use Rattle.records.specs.declared.types.TypeInner.{TypeInner}
 use Rattle.words.specs.Instructions.{and_then, check}
 use Rattle.words.specs.declared.operands.IdRef.{IdRef}
 use Rattle.words.specs.declared.operands.Gradient.{Gradient}
@@ -31,15 +32,16 @@ abbrev pub operand : Used → Shelf → IdRef → Result Operand Error
 operand u b r = and_then (value_of u b r) (λ v. Ok (record { value = v; place = r.place }))
 
 abbrev pub optional : Used → Shelf → Option IdRef → Result (Option Operand) Error
-optional u b None = Ok None
-optional u b (Some r) = and_then (operand u b r) (λ o. Ok (Some o))
+optional u b o = option_transpose (option_map (operand u b) o)
 
-abbrev pub optional_grad : Used → Shelf → Option Gradient → Result (Option FoundGradient) Error
-optional_grad u b None = Ok None
-optional_grad u b (Some g) =
+abbrev pub gradient : Used → Shelf → Gradient → Result FoundGradient Error
+gradient u b g =
     and_then (operand u b g.x) (λ x.
     and_then (operand u b g.y) (λ y.
-    Ok (Some (record { x = x; y = y }))))
+    Ok (record { x = x; y = y })))
+
+abbrev pub optional_grad : Used → Shelf → Option Gradient → Result (Option FoundGradient) Error
+optional_grad u b g = option_transpose (option_map (gradient u b) g)
 
 -- the operands by rising bit; those that are stepped over are not looked up
 abbrev pub operands_for : Used → Shelf → ImageOperands → Result FoundOperands Error
@@ -53,31 +55,30 @@ operands_for u b o =
 
 -- their types, in the same order: 7, blaming the operand
 
-abbrev pub fits_or : Bool → Operand → Result (Unit {0}) Error
-fits_or b o = check (not b) (InvalidOperand o.place)
+abbrev pub typed_by : Bool → Operand → Result (Unit {0}) Error
+typed_by right o = check (not right) (InvalidOperand o.place)
+
+-- an operand that is there has a right type
+abbrev pub typed : (TypeInner → Bool) → Option Operand → Result (Unit {0}) Error
+typed right None = Ok tt
+typed right (Some o) = typed_by (right o.value.inner) o
 
 abbrev pub bias_fits : Option Operand → Result (Unit {0}) Error
-bias_fits None = Ok tt
-bias_fits (Some o) = fits_or (is_float_scalar o.value.inner) o
+bias_fits o = typed is_float_scalar o
 
 -- of a sample a Float, of a load an integer
 abbrev pub lod_fits : Bool → Option Operand → Result (Unit {0}) Error
-lod_fits load None = Ok tt
-lod_fits load (Some o) = fits_or (cond load (is_integer_scalar o.value.inner) (is_float_scalar o.value.inner)) o
+lod_fits load o = typed (cond load is_integer_scalar is_float_scalar) o
 
 abbrev pub grads_fit : ImageDimension → Option FoundGradient → Result (Unit {0}) Error
 grads_fit d None = Ok tt
-grads_fit d (Some g) =
-    and_then (fits_or (grad_fits d g.x.value.inner) g.x) (λ _.
-    fits_or (grad_fits d g.y.value.inner) g.y)
+grads_fit d (Some g) = and_then (typed (grad_fits d) (Some g.x)) (λ _. typed (grad_fits d) (Some g.y))
 
 abbrev pub offset_operand_fits : ImageDimension → Option Operand → Result (Unit {0}) Error
-offset_operand_fits d None = Ok tt
-offset_operand_fits d (Some o) = fits_or (offset_fits d o.value.inner) o
+offset_operand_fits d o = typed (offset_fits d) o
 
 abbrev pub sample_fits : Option Operand → Result (Unit {0}) Error
-sample_fits None = Ok tt
-sample_fits (Some o) = fits_or (is_integer_scalar o.value.inner) o
+sample_fits o = typed is_integer_scalar o
 
 abbrev pub operands_fit : Bool → ImageDimension → FoundOperands → Result (Unit {0}) Error
 operands_fit load d o =

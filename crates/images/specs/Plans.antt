@@ -1,36 +1,31 @@
 -- Reading one instruction: the checks in the order of their refusals, and what they find. A refusal blames the place of a
 -- word. `u` has the used parts of the lists, `b` the books.
-use Rattle.std.specs.Prelude.{ℕ, Bool, true, false, cond, not, ◌&&◌, ◌||◌, Some, None, Ok, Option, Result, ◌==◌}
-use Rattle.std.specs.Option.{ok_or, option_map}
-use Rattle.records.specs.Expressions.{no_type}
+use Rattle.std.specs.Prelude.{ℕ, Bool, true, false, cond, not, ◌&&◌, ◌||◌, Some, None, Ok, Option, Result}
+use Rattle.std.specs.Bool.{then_some}
+use Rattle.std.specs.Option.{ok_or}
 use Rattle.records.specs.declared.expressions.SampleLevel.{SampleLevel}
 use Rattle.records.specs.declared.expressions.SampleLevel.TheVariants.{Auto, Zero, Exact, Bias, Gradient}
 use Rattle.records.specs.declared.expressions.SwizzleComponent.{SwizzleComponent}
 use Rattle.records.specs.declared.expressions.SwizzleComponent.TheVariants.{X}
-use Rattle.records.specs.declared.handles.TypeHandle.{TypeHandle}
 use Rattle.records.specs.declared.lookups.LookupSampledImage.{LookupSampledImage}
 use Rattle.records.specs.declared.refusals.Error.{Error}
-use Rattle.records.specs.declared.refusals.Error.TheVariants.{InvalidId, InvalidResultId, InvalidGlobalVar, InvalidImage, InvalidCoordinate, InvalidVectorType, InvalidType, MissingType}
-use Rattle.records.specs.declared.types.ImageDimension.{ImageDimension}
-use Rattle.records.specs.declared.types.ScalarKind.{ScalarKind}
+use Rattle.records.specs.declared.refusals.Error.TheVariants.{InvalidId, InvalidResultId, InvalidGlobalVar, InvalidImage, InvalidVectorType, InvalidType}
 use Rattle.records.specs.declared.types.TypeInner.{TypeInner}
-use Rattle.records.specs.declared.types.TypeInner.TheVariants.{Vector, Sampler}
-use Rattle.records.specs.declared.types.VectorSize.{VectorSize}
+use Rattle.records.specs.declared.types.TypeInner.TheVariants.{Sampler}
 use Rattle.records.specs.declared.types.VectorSize.TheVariants.{Quad}
 use Rattle.run.specs.Rules.{is_depth}
-use Rattle.run.specs.Types.{same_type, kind_in, count_in, is_float}
+use Rattle.run.specs.Types.{same_type}
 use Rattle.words.specs.Instructions.{and_then, check}
 use Rattle.words.specs.Opcodes.{row_of}
+use Rattle.words.specs.declared.instructions.Ids.{Ids}
 use Rattle.words.specs.declared.instructions.Instruction.{Instruction}
 use Rattle.words.specs.declared.opcodes.Layout.{Layout}
-use Rattle.words.specs.declared.opcodes.Layout.TheVariants.{Couple, Plain, Component, Reference, Write}
+use Rattle.words.specs.declared.opcodes.Layout.TheVariants.{Component}
 use Rattle.words.specs.declared.opcodes.OperandRule.{OperandRule}
 use Rattle.words.specs.declared.opcodes.OperandRule.TheVariants.{Never, Implicit, Explicit, Gather, Load, Store}
 use Rattle.words.specs.declared.operands.IdRef.{IdRef}
-use Rattle.memory.specs.Firsts.{first_equal}
 use Rattle.memory.specs.Lookups.{new_value, new_couple}
 use Rattle.memory.specs.Shelves.{Shelf}
-use Rattle.memory.specs.declared.found.FoundValue.{FoundValue}
 use Rattle.images.specs.declared.find.FoundResource.{FoundResource}
 use Rattle.images.specs.declared.instructions.Plan.{Plan}
 use Rattle.images.specs.declared.instructions.Plan.TheVariants as plans
@@ -39,8 +34,7 @@ use Rattle.images.specs.declared.operands.FoundGradient.{FoundGradient}
 use Rattle.images.specs.declared.operands.FoundOperands.{FoundOperands}
 use Rattle.images.specs.declared.options.SamplingOptions.{SamplingOptions}
 use Rattle.images.specs.declared.options.ImageShape.{ImageShape}
-use Rattle.images.specs.declared.plans.ExtraCoordinate.{ExtraCoordinate}
-use Rattle.images.specs.declared.plans.ExtraCoordinate.TheVariants.{ArrayLayer, Projection, Garbage}
+use Rattle.images.specs.declared.places.ImagePlace.{ImagePlace}
 use Rattle.images.specs.declared.plans.Split.{Split}
 use Rattle.images.specs.declared.plans.SamplePlan.{SamplePlan}
 use Rattle.images.specs.declared.plans.LoadPlan.{LoadPlan}
@@ -48,10 +42,12 @@ use Rattle.images.specs.declared.plans.StorePlan.{StorePlan}
 use Rattle.images.specs.declared.samples.SampleParts.{SampleParts}
 use Rattle.images.specs.declared.loads.LoadParts.{LoadParts}
 use Rattle.images.specs.declared.stores.StoreParts.{StoreParts}
+use Rattle.images.specs.declared.texels.Texel.{Texel}
 use Rattle.images.specs.Used.{Used}
 use Rattle.images.specs.Finds.{inner_at, image_type, resource_at, component_at}
 use Rattle.images.specs.Operands.{value_of, type_of, optional, operands_for, operands_fit, bias_fits, handle_of}
-use Rattle.images.specs.Rules.{sampling_of, place_size, shape_of, sample_allows, load_allows, store_allows, coordinate_fits, sample_result, load_result_fits, stored_fits, vector_size, composed_size}
+use Rattle.images.specs.Places.{place_fits, split_for}
+use Rattle.images.specs.Rules.{sampling_of, shape_of, sample_allows, load_allows, store_allows, sample_result, load_result_fits, stored_fits, vector_size}
 
 -- images: 10, blaming the image or sampled image
 
@@ -63,39 +59,12 @@ shape_for place t = ok_or (shape_of t) (InvalidImage place)
 abbrev pub new_result : Shelf → IdRef → Result (Unit {0}) Error
 new_result b r = check (not (new_value b r.id)) (InvalidResultId r.place)
 
--- The coordinate: 11, and 14 for the vector type of the Compose that puts a place together again, both blaming it. `more` is
--- whether there is a layer or a divisor.
-
-abbrev pub vector_by : Used → ScalarKind → ℕ → Option VectorSize → Result TypeHandle Error
-vector_by u k place None = Ok no_type
-vector_by u k place (Some s) = ok_or (option_map (λ n. record { index = n }) (first_equal (Vector s k) u.types)) (MissingType place)
-
-abbrev pub vector_for : Used → ImageDimension → Bool → ScalarKind → ℕ → Result TypeHandle Error
-vector_for u d more k place = cond more (vector_by u k place (composed_size d)) (Ok no_type)
-
--- what the component after the place is
-abbrev pub extra_of : Bool → Bool → ExtraCoordinate
-extra_of project arrayed = cond project Projection (cond arrayed ArrayLayer Garbage)
-
-abbrev pub split_of : FoundValue → ImageDimension → ExtraCoordinate → TypeHandle → Split
-split_of c d extra v = record {
-  base = c.handle;
-  dim = d;
-  extra = extra;
-  float = is_float (kind_in c.inner);
-  exact = (count_in c.inner == place_size d);
-  vector = v;
-}
-
 -- Samples and gathers.
 
 -- the component, of which a comparing gather takes the first
 abbrev pub gather_for : Used → Shelf → SamplingOptions → IdRef → Layout → Result (Option SwizzleComponent) Error
-gather_for u b o r Couple = Ok (cond o.gather (Some X) None)
-gather_for u b o r Plain = Ok (cond o.gather (Some X) None)
 gather_for u b o r Component = and_then (value_of u b r) (λ v. and_then (component_at u r.place v.handle) (λ c. Ok (Some c)))
-gather_for u b o r Reference = Ok (cond o.gather (Some X) None)
-gather_for u b o r Write = Ok (cond o.gather (Some X) None)
+gather_for u b o r _ = Ok (then_some o.gather X)
 
 abbrev pub reference_for : Used → Shelf → SamplingOptions → IdRef → Result (Option Operand) Error
 reference_for u b o r = cond o.compare (optional u b (Some r)) (Ok None)
@@ -123,11 +92,10 @@ sample_finds u b i =
     Ok (record {
       operands = operands;
       couple = couple;
-      coordinate = coordinate;
+      place = record { shape = shape; project = o.project; coordinate = coordinate; word = i.ids.coordinate.place };
       gather = gather;
       image = image.root;
       sampler = sampler.root;
-      shape = shape;
       reference = reference;
       result = result;
     })))))))))))))
@@ -161,9 +129,9 @@ abbrev pub sampling_bit : SamplingOptions → ℕ
 sampling_bit o = cond o.compare 2 1
 
 -- a Depth sample that neither compares nor gathers is splatted
-abbrev pub sample_plan : SamplingOptions → SampleParts → TypeHandle → SamplePlan
-sample_plan o p v = record {
-  split = split_of p.coordinate p.shape.dim (extra_of o.project p.shape.arrayed) v;
+abbrev pub sample_plan : SamplingOptions → SampleParts → Split → SamplePlan
+sample_plan o p s = record {
+  split = s;
   image = p.couple.image;
   sampler = p.couple.sampler;
   image_root = p.image;
@@ -173,7 +141,7 @@ sample_plan o p v = record {
   offset = handle_of p.operands.offset;
   level = level_of o p.operands;
   reference = handle_of p.reference;
-  splat = cond (not (o.compare || o.gather) && is_depth p.shape.class) (Some Quad) None;
+  splat = cond (not (o.compare || o.gather) && is_depth p.place.shape.class) (Some Quad) None;
   result = p.result.handle;
 }
 
@@ -181,56 +149,61 @@ sample_plan o p v = record {
 abbrev pub sample_fitted : Used → Instruction → SampleParts → Result SamplePlan Error
 sample_fitted u i p =
     let o : SamplingOptions = sampling_of i.opcode in
-    let d : ImageDimension = p.shape.dim in
-    let more : Bool = p.shape.arrayed || o.project in
-    let coordinate : TypeInner = p.coordinate.inner in
-    and_then (operands_fit false d p.operands) (λ _.
+    let shape : ImageShape = p.place.shape in
+    and_then (operands_fit false shape.dim p.operands) (λ _.
     and_then (bias_fits p.reference) (λ _.
-    and_then (check (not (coordinate_fits true d more coordinate)) (InvalidCoordinate i.ids.coordinate.place)) (λ _.
-    and_then (check (not (same_type p.result.inner (sample_result o p.shape.class))) (InvalidType i.ids.result_type.place)) (λ _.
-    and_then (vector_for u d more (kind_in coordinate) i.ids.coordinate.place) (λ v.
-    Ok (sample_plan o p v))))))
+    and_then (place_fits true p.place) (λ _.
+    and_then (check (not (same_type p.result.inner (sample_result o shape.class))) (InvalidType i.ids.result_type.place)) (λ _.
+    and_then (split_for u p.place) (λ s.
+    Ok (sample_plan o p s))))))
 
 abbrev pub sample_read : Used → Shelf → Instruction → Result SamplePlan Error
 sample_read u b i = and_then (sample_finds u b i) (sample_fitted u i)
+
+-- The texel of a load or store: refusals 5, 8 and 10.
+
+abbrev pub texel_for : Used → Shelf → Ids → Result Texel Error
+texel_for u b ids =
+    and_then (value_of u b ids.image) (λ image.
+    and_then (image_type u ids.image.place image.handle.index) (λ ty.
+    and_then (value_of u b ids.coordinate) (λ coordinate.
+    and_then (inner_at u ty) (λ inner.
+    and_then (shape_for ids.image.place inner) (λ shape.
+    Ok (record {
+      image = image.handle;
+      place = record { shape = shape; project = false; coordinate = coordinate; word = ids.coordinate.place };
+    }))))))
 
 -- Loads: Fetch and Read.
 
 abbrev pub load_finds : Used → Shelf → Instruction → Result LoadParts Error
 load_finds u b i =
-    let place : ℕ = i.ids.image.place in
     and_then (new_result b i.ids.result) (λ _.
     and_then (operands_for u b i.operands) (λ operands.
-    and_then (value_of u b i.ids.image) (λ image.
-    and_then (image_type u place image.handle.index) (λ ty.
-    and_then (value_of u b i.ids.coordinate) (λ coordinate.
-    and_then (inner_at u ty) (λ inner.
-    and_then (shape_for place inner) (λ shape.
-    and_then (check (not (load_allows shape)) (InvalidImage place)) (λ _.
+    and_then (texel_for u b i.ids) (λ texel.
+    and_then (check (not (load_allows texel.place.shape)) (InvalidImage i.ids.image.place)) (λ _.
     and_then (type_of u b i.ids.result_type) (λ result.
-    Ok (record { operands = operands; image = image.handle; coordinate = coordinate; shape = shape; result = result }))))))))))
+    Ok (record { operands = operands; texel = texel; result = result }))))))
 
 -- a Depth load is splatted to a vector result
-abbrev pub load_plan : LoadParts → TypeHandle → LoadPlan
-load_plan p v = record {
-  split = split_of p.coordinate p.shape.dim (extra_of false p.shape.arrayed) v;
-  image = p.image;
+abbrev pub load_plan : LoadParts → Split → LoadPlan
+load_plan p s = record {
+  split = s;
+  image = p.texel.image;
   sample = handle_of p.operands.sample;
   lod = handle_of p.operands.lod;
-  splat = cond (is_depth p.shape.class) (vector_size p.result.inner) None;
+  splat = cond (is_depth p.texel.place.shape.class) (vector_size p.result.inner) None;
   result = p.result.handle;
 }
 
 abbrev pub load_fitted : Used → Instruction → LoadParts → Result LoadPlan Error
 load_fitted u i p =
-    let d : ImageDimension = p.shape.dim in
-    let more : Bool = p.shape.arrayed in
-    let coordinate : TypeInner = p.coordinate.inner in
-    and_then (operands_fit true d p.operands) (λ _.
-    and_then (check (not (coordinate_fits false d more coordinate)) (InvalidCoordinate i.ids.coordinate.place)) (λ _.
-    and_then (check (not (load_result_fits p.shape.class p.result.inner)) (InvalidType i.ids.result_type.place)) (λ _.
-    and_then (vector_for u d more (kind_in coordinate) i.ids.coordinate.place) (λ v.
-    Ok (load_plan p v)))))
+    let place : ImagePlace = p.texel.place in
+    and_then (operands_fit true place.shape.dim p.operands) (λ _.
+    and_then (place_fits false place) (λ _.
+    and_then (check (not (load_result_fits place.shape.class p.result.inner)) (InvalidType i.ids.result_type.place)) (λ _.
+    and_then (split_for u place) (λ s.
+    Ok (load_plan p s)))))
 
 abbrev pub load_read : Used → Shelf → Instruction → Result LoadPlan Error
 load_read u b i = and_then (load_finds u b i) (load_fitted u i)
@@ -239,36 +212,28 @@ load_read u b i = and_then (load_finds u b i) (load_fitted u i)
 
 abbrev pub store_finds : Used → Shelf → Instruction → Result StoreParts Error
 store_finds u b i =
-    let place : ℕ = i.ids.image.place in
-    and_then (value_of u b i.ids.image) (λ image.
-    and_then (image_type u place image.handle.index) (λ ty.
-    and_then (value_of u b i.ids.coordinate) (λ coordinate.
-    and_then (inner_at u ty) (λ inner.
-    and_then (shape_for place inner) (λ shape.
-    and_then (check (not (store_allows shape)) (InvalidImage place)) (λ _.
+    and_then (texel_for u b i.ids) (λ texel.
+    and_then (check (not (store_allows texel.place.shape)) (InvalidImage i.ids.image.place)) (λ _.
     and_then (value_of u b i.ids.value) (λ value.
-    and_then (check (not (stored_fits shape.class value.inner)) (InvalidVectorType i.ids.value.place)) (λ _.
-    Ok (record { image = image.handle; coordinate = coordinate; shape = shape; value = value })))))))))
+    and_then (check (not (stored_fits texel.place.shape.class value.inner)) (InvalidVectorType i.ids.value.place)) (λ _.
+    Ok (record { texel = texel; value = value })))))
 
-abbrev pub store_plan : StoreParts → TypeHandle → StorePlan
-store_plan p v = record {
-  split = split_of p.coordinate p.shape.dim (extra_of false p.shape.arrayed) v;
-  image = p.image;
+abbrev pub store_plan : StoreParts → Split → StorePlan
+store_plan p s = record {
+  split = s;
+  image = p.texel.image;
   value = p.value.handle;
   size = vector_size p.value.inner;
 }
 
-abbrev pub store_fitted : Used → Instruction → StoreParts → Result StorePlan Error
-store_fitted u i p =
-    let d : ImageDimension = p.shape.dim in
-    let more : Bool = p.shape.arrayed in
-    let coordinate : TypeInner = p.coordinate.inner in
-    and_then (check (not (coordinate_fits false d more coordinate)) (InvalidCoordinate i.ids.coordinate.place)) (λ _.
-    and_then (vector_for u d more (kind_in coordinate) i.ids.coordinate.place) (λ v.
-    Ok (store_plan p v)))
+abbrev pub store_fitted : Used → StoreParts → Result StorePlan Error
+store_fitted u p =
+    and_then (place_fits false p.texel.place) (λ _.
+    and_then (split_for u p.texel.place) (λ s.
+    Ok (store_plan p s)))
 
 abbrev pub store_read : Used → Shelf → Instruction → Result StorePlan Error
-store_read u b i = and_then (store_finds u b i) (store_fitted u i)
+store_read u b i = and_then (store_finds u b i) (store_fitted u)
 
 -- Couples: an image and a sampler by one id. What they are is not looked at.
 

@@ -9,7 +9,7 @@ use Rattle.records.specs.declared.types.ImageDimension.TheVariants.{D1, D2, D3, 
 use Rattle.records.specs.declared.types.ImageClass.{ImageClass}
 use Rattle.records.specs.declared.types.ImageClass.TheVariants.{Sampled, Depth, Storage}
 use Rattle.records.specs.declared.types.TypeInner.{TypeInner}
-use Rattle.records.specs.declared.types.TypeInner.TheVariants.{Scalar, Vector, Image, Sampler, BindingArray}
+use Rattle.records.specs.declared.types.TypeInner.TheVariants.{Scalar, Vector, Image, BindingArray}
 use Rattle.run.specs.Types.{same_type, same_kind, count_in, kind_in, class_kind, is_float, is_integer}
 use Rattle.run.specs.Rules.{is_int, place_type, is_depth}
 use Rattle.words.specs.declared.opcodes.Opcode.{Opcode}
@@ -46,22 +46,18 @@ place_size D3 = 3
 place_size Cube = 3
 
 abbrev pub is_cube : ImageDimension → Bool
-is_cube D1 = false
-is_cube D2 = false
-is_cube D3 = false
 is_cube Cube = true
+is_cube _ = false
 
 -- the images of which four texels can be gathered
 abbrev pub gatherable : ImageDimension → Bool
-gatherable D1 = false
 gatherable D2 = true
-gatherable D3 = false
 gatherable Cube = true
+gatherable _ = false
 
 abbrev pub is_storage : ImageClass → Bool
-is_storage (Sampled k m) = false
-is_storage (Depth m) = false
 is_storage (Storage k) = true
+is_storage _ = false
 
 -- the images whose texels can be compared with a reference
 abbrev pub comparable : ImageClass → Bool
@@ -71,19 +67,13 @@ comparable (Storage k) = false
 
 -- an image type by its parts
 abbrev pub shape_of : TypeInner → Option ImageShape
-shape_of (Scalar k) = None
-shape_of (Vector s k) = None
 shape_of (Image d a c) = Some (record { dim = d; arrayed = a; class = c })
-shape_of Sampler = None
-shape_of (BindingArray b) = None
+shape_of _ = None
 
 -- what a binding array is an array of
 abbrev pub array_base : TypeInner → Option TypeHandle
-array_base (Scalar k) = None
-array_base (Vector s k) = None
-array_base (Image d a c) = None
-array_base Sampler = None
 array_base (BindingArray h) = Some h
+array_base _ = None
 
 abbrev pub implies : Bool → Bool → Bool
 implies a b = not a || b
@@ -131,12 +121,16 @@ is_number t = nat_le 1 (count_in t)
 
 -- Results: a comparing sample gives one Float, all other samples and gathers four of the image's kind.
 
+-- four components of the image's kind
+abbrev pub texel_type : ImageClass → TypeInner
+texel_type c = Vector Quad (class_kind c)
+
 abbrev pub sample_result : SamplingOptions → ImageClass → TypeInner
-sample_result o c = cond (o.compare && not o.gather) (Scalar Float) (Vector Quad (class_kind c))
+sample_result o c = cond (o.compare && not o.gather) (Scalar Float) (texel_type c)
 
 -- a load of Depth gives one Float, which is splatted to a vector
 abbrev pub load_result_fits : ImageClass → TypeInner → Bool
-load_result_fits c t = cond (is_depth c) (is_number t && is_float (kind_in t)) (same_type t (Vector Quad (class_kind c)))
+load_result_fits c t = cond (is_depth c) (is_number t && is_float (kind_in t)) (same_type t (texel_type c))
 
 -- what is stored: a scalar or vector of the image's kind
 abbrev pub stored_fits : ImageClass → TypeInner → Bool
@@ -144,11 +138,8 @@ stored_fits c t = is_number t && same_kind (kind_in t) (class_kind c)
 
 -- the size of a vector; a scalar has none
 abbrev pub vector_size : TypeInner → Option VectorSize
-vector_size (Scalar k) = None
 vector_size (Vector s k) = Some s
-vector_size (Image d a c) = None
-vector_size Sampler = None
-vector_size (BindingArray b) = None
+vector_size _ = None
 
 abbrev pub composed_size : ImageDimension → Option VectorSize
 composed_size D1 = None

@@ -43,7 +43,7 @@ impl Split {
         match self.extra {
             ExtraCoordinate::ArrayLayer => place_count(self.dim) + layer_count(self.float),
             ExtraCoordinate::Projection => projected_count(self.dim),
-            ExtraCoordinate::Garbage => if self.exact { 0 } else { 1 },
+            ExtraCoordinate::Garbage => u32::from(!self.exact),
         }
     }
 
@@ -64,10 +64,7 @@ fn one_or_two(splat: Option<VectorSize>) -> u32
     ensures value { result ≡ one_or_two splat }
     ensures bound { result ≤ 2 }
 {
-    match splat {
-        Some(_) => 2,
-        None => 1,
-    }
+    if splat.is_some() { 2 } else { 1 }
 }
 
 impl SamplePlan {
@@ -92,9 +89,10 @@ fn widened_count(size: Option<VectorSize>) -> u32
     ensures value { result ≡ widened_count size }
     ensures bound { result ≤ 1 }
 {
-    match size {
-        Some(VectorSize::Quad) => 0,
-        _ => 1,
+    if matches!(size, Some(VectorSize::Quad)) {
+        0
+    } else {
+        1
     }
 }
 

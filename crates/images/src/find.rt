@@ -21,12 +21,8 @@ pub struct FoundResource {
 fn expression_at(lists: UsedLists<'_>, handle: ExpressionHandle) -> Result<Expression, Error>
     ensures { result ≡ expression_at (used_of lists.entry) handle }
 {
-    let i = handle.index as usize;
-    if i < lists.expressions.len() {
-        Ok(lists.expressions[i])
-    } else {
-        Err(Error::Mismatch)
-    }
+    let e = lists.expressions.get(handle.index as usize);
+    e.copied().ok_or(Error::Mismatch)
 }
 
 fn variable_type(lists: UsedLists<'_>, variable: GlobalVariableHandle) -> Result<TypeHandle, Error>

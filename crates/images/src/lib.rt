@@ -3,14 +3,17 @@
 
 mod counts;
 mod couples;
+mod expect;
 mod find;
 mod instructions;
 mod loads;
 mod operands;
 mod options;
+mod places;
 mod plans;
 mod samples;
 mod stores;
+mod texels;
 
 pub use counts::place_count;
 pub use couples::parse_image_couple;

@@ -1,8 +1,9 @@
 // What each opcode does, which images it may use, and of which types its operands are.
 ghost use Rattle.std.specs.Prelude.{◌≡◌, not};
-ghost use Rattle.images.specs.Rules.{options, sampling_of, place_size, is_cube, gatherable, is_storage, comparable, shape_of, array_base, sample_allows, load_allows, store_allows, is_float_scalar, grad_fits, offset_fits, is_integer_scalar, coordinate_fits, is_number, sample_result, load_result_fits, stored_fits, vector_size, composed_size};
+ghost use Rattle.images.specs.Rules.{options, sampling_of, place_size, is_cube, gatherable, is_storage, comparable, shape_of, array_base, sample_allows, load_allows, store_allows, is_float_scalar, grad_fits, offset_fits, is_integer_scalar, coordinate_fits, is_number, sample_result, texel_type, load_result_fits, stored_fits, vector_size, composed_size};
+ghost use Rattle.images.specs.Plans.{shape_for};
 
-use records::{ImageClass, ImageDimension, ScalarKind, TypeHandle, TypeInner, VectorSize};
+use records::{Error, ImageClass, ImageDimension, ScalarKind, TypeHandle, TypeInner, VectorSize};
 use run::{
     class_kind, count_in, is_depth, is_float, is_integer, is_integer_place, is_integer_scalar,
     kind_in, place_type, same_kind, same_type,
@@ -31,24 +32,23 @@ pub struct ImageShape {
 pub fn sampling_of(opcode: Opcode) -> SamplingOptions
     ensures { result ≡ sampling_of opcode }
 {
-    let (project, compare, gather) = match opcode {
-        Opcode::ImageSampleDrefImplicitLod | Opcode::ImageSampleDrefExplicitLod => {
-            (false, true, false)
-        }
-        Opcode::ImageSampleProjImplicitLod | Opcode::ImageSampleProjExplicitLod => {
-            (true, false, false)
-        }
-        Opcode::ImageSampleProjDrefImplicitLod | Opcode::ImageSampleProjDrefExplicitLod => {
-            (true, true, false)
-        }
-        Opcode::ImageGather => (false, false, true),
-        Opcode::ImageDrefGather => (false, true, true),
-        _ => (false, false, false),
-    };
     SamplingOptions {
-        project,
-        compare,
-        gather,
+        project: matches!(
+            opcode,
+            Opcode::ImageSampleProjImplicitLod
+                | Opcode::ImageSampleProjExplicitLod
+                | Opcode::ImageSampleProjDrefImplicitLod
+                | Opcode::ImageSampleProjDrefExplicitLod
+        ),
+        compare: matches!(
+            opcode,
+            Opcode::ImageSampleDrefImplicitLod
+                | Opcode::ImageSampleDrefExplicitLod
+                | Opcode::ImageSampleProjDrefImplicitLod
+                | Opcode::ImageSampleProjDrefExplicitLod
+                | Opcode::ImageDrefGather
+        ),
+        gather: matches!(opcode, Opcode::ImageGather | Opcode::ImageDrefGather),
     }
 }
 
@@ -66,28 +66,19 @@ pub fn place_size(dim: ImageDimension) -> u32
 fn is_cube(dim: ImageDimension) -> bool
     ensures { result ≡ is_cube dim }
 {
-    match dim {
-        ImageDimension::Cube => true,
-        _ => false,
-    }
+    matches!(dim, ImageDimension::Cube)
 }
 
 fn gatherable(dim: ImageDimension) -> bool
     ensures { result ≡ gatherable dim }
 {
-    match dim {
-        ImageDimension::D2 | ImageDimension::Cube => true,
-        ImageDimension::D1 | ImageDimension::D3 => false,
-    }
+    matches!(dim, ImageDimension::D2 | ImageDimension::Cube)
 }
 
 fn is_storage(class: ImageClass) -> bool
     ensures { result ≡ is_storage class }
 {
-    match class {
-        ImageClass::Storage { .. } => true,
-        _ => false,
-    }
+    matches!(class, ImageClass::Storage { .. })
 }
 
 fn comparable(class: ImageClass) -> bool
@@ -117,6 +108,13 @@ pub fn shape_of(ty: TypeInner) -> Option<ImageShape>
     }
 }
 
+// A type that has to be an image, whose word stands at a place.
+pub fn expect_image(place: usize, ty: TypeInner) -> Result<ImageShape, Error>
+    ensures { result ≡ shape_for place ty }
+{
+    shape_of(ty).ok_or(Error::InvalidImage(place))
+}
+
 // What a binding array is an array of.
 pub fn array_base(ty: TypeInner) -> Option<TypeHandle>
     ensures { result ≡ array_base ty }
@@ -124,6 +122,16 @@ pub fn array_base(ty: TypeInner) -> Option<TypeHandle>
     match ty {
         TypeInner::BindingArray { base } => Some(base),
         _ => None,
+    }
+}
+
+// The type of a texel of an image that is no Depth image.
+fn texel_type(class: ImageClass) -> TypeInner
+    ensures { result ≡ texel_type class }
+{
+    TypeInner::Vector {
+        size: VectorSize::Quad,
+        kind: class_kind(class),
     }
 }
 
@@ -144,10 +152,7 @@ impl SamplingOptions {
         if self.compare && !self.gather {
             TypeInner::Scalar(ScalarKind::Float)
         } else {
-            TypeInner::Vector {
-                size: VectorSize::Quad,
-                kind: class_kind(class),
-            }
+            texel_type(class)
         }
     }
 }
@@ -200,8 +205,7 @@ pub fn coordinate_fits(float: bool, dim: ImageDimension, more: bool, ty: TypeInn
     } else {
         is_integer(kind)
     };
-    let extra = if more { 1 } else { 0 };
-    right && place_size(dim) + extra <= count_in(ty)
+    right && place_size(dim) + u32::from(more) <= count_in(ty)
 }
 
 fn is_number(ty: TypeInner) -> bool
@@ -216,11 +220,7 @@ pub fn load_result_fits(class: ImageClass, ty: TypeInner) -> bool
     if is_depth(class) {
         is_number(ty) && is_float(kind_in(ty))
     } else {
-        let texel = TypeInner::Vector {
-            size: VectorSize::Quad,
-            kind: class_kind(class),
-        };
-        same_type(ty, texel)
+        same_type(ty, texel_type(class))
     }
 }
 

@@ -13,14 +13,21 @@ use Rattle.memory.specs.Shelves.{Shelf}
 
 -- Whether an id can be a new one: it is legal in its own book, and in no book.
 
+abbrev pub is_new : {R S Q : Type 0} → Book R → Book S → Book Q → ℕ → Bool
+is_new own second third id = not (taken own id) && (not (is_some (second.held id)) && not (is_some (third.held id)))
+
 abbrev pub new_type : Shelf → ℕ → Bool
-new_type b id = not (taken b.types id) && (not (is_some (b.values.held id)) && not (is_some (b.couples.held id)))
+new_type b id = is_new b.types b.values b.couples id
 
 abbrev pub new_value : Shelf → ℕ → Bool
-new_value b id = not (taken b.values id) && (not (is_some (b.types.held id)) && not (is_some (b.couples.held id)))
+new_value b id = is_new b.values b.types b.couples id
 
 abbrev pub new_couple : Shelf → ℕ → Bool
-new_couple b id = not (taken b.couples id) && (not (is_some (b.types.held id)) && not (is_some (b.values.held id)))
+new_couple b id = is_new b.couples b.types b.values id
+
+-- whether an id is in no book
+abbrev pub is_free : Shelf → ℕ → Bool
+is_free b id = not (is_some (b.types.held id)) && (not (is_some (b.values.held id)) && not (is_some (b.couples.held id)))
 
 -- whether a record more fits into a book
 abbrev pub has_space : {R : Type 0} → Book R → Bool

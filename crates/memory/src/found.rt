@@ -1,15 +1,12 @@
 // What an id names: it is looked up in its book, and what the book says must lie inside the used lists.
 ghost use Rattle.std.specs.Prelude.{◌≡◌, length};
-ghost use Rattle.memory.specs.Shelves.{shelf_of};
 ghost use Rattle.memory.specs.Lookups.{type_for, value_for};
 
-use crate::shelf::Books;
+use crate::context::BlockContext;
+use crate::id_books::IdBooks;
 use books::LookupHelper;
-use records::{
-    Error, ExpressionHandle, LookupExpression, LookupSampledImage, LookupType, TypeHandle,
-    TypeInner,
-};
-use run::Lists as UsedLists;
+use records::{Error, ExpressionHandle, TypeHandle, TypeInner};
+use words::IdRef;
 
 // A type that an id names.
 #[derive(Clone, Copy)]
@@ -26,17 +23,14 @@ pub struct FoundValue {
     pub inner: TypeInner,
 }
 
-impl<
-    T: LookupHelper<LookupType>,
-    V: LookupHelper<LookupExpression>,
-    C: LookupHelper<LookupSampledImage>,
-> Books<T, V, C> {
+impl<B: IdBooks> BlockContext<'_, B> {
     // The type of an id, whose word stands at a place.
-    pub fn find_type(&self, lists: UsedLists<'_>, place: usize, id: u32) -> Result<FoundType, Error>
-        ensures { result ≡ type_for lists.entry.types.now (shelf_of T.LookupHelper.book V.LookupHelper.book C.LookupHelper.book self.now) place id }
+    pub fn find_type(&self, id: IdRef) -> Result<FoundType, Error>
+        ensures { result ≡ type_for self.now.lists.types.now (B.shelf self.now.books.now) id.place id.id }
     {
-        let lookup = self.types.find(id).ok_or(Error::InvalidId(place))?;
-        let inner = lists.type_at(lookup.handle).ok_or(Error::Mismatch)?;
+        let IdRef { id, place } = id;
+        let lookup = self.books.types().find(id).ok_or(Error::InvalidId(place))?;
+        let inner = self.lists.type_at(lookup.handle).ok_or(Error::Mismatch)?;
         Ok(FoundType {
             handle: lookup.handle,
             inner,
@@ -44,19 +38,15 @@ impl<
     }
 
     // The value of an id, whose word stands at a place.
-    pub fn find_value(
-        &self,
-        lists: UsedLists<'_>,
-        place: usize,
-        id: u32,
-    ) -> Result<FoundValue, Error>
-        ensures { result ≡ value_for lists.entry.types.now (length lists.entry.expressions.now) (shelf_of T.LookupHelper.book V.LookupHelper.book C.LookupHelper.book self.now) place id }
+    pub fn find_value(&self, id: IdRef) -> Result<FoundValue, Error>
+        ensures { result ≡ value_for self.now.lists.types.now (length self.now.lists.expressions.now) (B.shelf self.now.books.now) id.place id.id }
     {
-        let lookup = self.values.find(id).ok_or(Error::InvalidId(place))?;
-        if lists.expressions.len() <= lookup.handle.index as usize {
+        let IdRef { id, place } = id;
+        let lookup = self.books.values().find(id).ok_or(Error::InvalidId(place))?;
+        if self.lists.expressions.len() <= lookup.handle.index as usize {
             return Err(Error::Mismatch);
         }
-        let inner = lists.type_at(lookup.ty).ok_or(Error::Mismatch)?;
+        let inner = self.lists.type_at(lookup.ty).ok_or(Error::Mismatch)?;
         Ok(FoundValue {
             handle: lookup.handle,
             ty: lookup.ty,

@@ -30,11 +30,7 @@ pub struct Counts {
 pub(crate) fn front<T>(cells: &[T], count: u32) -> &[T]
     ensures { result.now ≡ take count cells.now }
 {
-    if (count as usize) < cells.len() {
-        &cells[0..count as usize]
-    } else {
-        cells
-    }
+    cells.get(..count as usize).unwrap_or(cells)
 }
 
 // Whether some more records fit into a list: a cell is free if it is lent, not used and below the limit.

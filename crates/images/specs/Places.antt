@@ -1,0 +1,53 @@
+-- A place in an image: whether a coordinate fits it, and how it is taken apart. `u` has the used parts of the lists.
+use Rattle.std.specs.Prelude.{Bool, cond, not, ◌||◌, Some, None, Ok, Option, Result, ◌==◌}
+use Rattle.std.specs.Option.{ok_or, option_map}
+use Rattle.records.specs.Expressions.{no_type}
+use Rattle.records.specs.declared.handles.TypeHandle.{TypeHandle}
+use Rattle.records.specs.declared.refusals.Error.{Error}
+use Rattle.records.specs.declared.refusals.Error.TheVariants.{InvalidCoordinate, MissingType}
+use Rattle.records.specs.declared.types.TypeInner.TheVariants.{Vector}
+use Rattle.records.specs.declared.types.VectorSize.{VectorSize}
+use Rattle.run.specs.Types.{kind_in, count_in, is_float}
+use Rattle.words.specs.Instructions.{and_then, check}
+use Rattle.memory.specs.Firsts.{first_equal}
+use Rattle.images.specs.declared.places.ImagePlace.{ImagePlace}
+use Rattle.images.specs.declared.plans.ExtraCoordinate.{ExtraCoordinate}
+use Rattle.images.specs.declared.plans.ExtraCoordinate.TheVariants.{ArrayLayer, Projection, Garbage}
+use Rattle.images.specs.declared.plans.Split.{Split}
+use Rattle.images.specs.Used.{Used}
+use Rattle.images.specs.Rules.{place_size, coordinate_fits, composed_size}
+
+-- whether there is a layer or a divisor
+abbrev pub has_more : ImagePlace → Bool
+has_more p = p.shape.arrayed || p.project
+
+-- what the component after the place is
+abbrev pub extra_of : Bool → Bool → ExtraCoordinate
+extra_of project arrayed = cond project Projection (cond arrayed ArrayLayer Garbage)
+
+-- The coordinate: 11, and 14 for the vector type of the Compose that puts a place together again, both blaming it.
+
+abbrev pub place_fits : Bool → ImagePlace → Result (Unit {0}) Error
+place_fits float p =
+    check (not (coordinate_fits float p.shape.dim (has_more p) p.coordinate.inner)) (InvalidCoordinate p.word)
+
+abbrev pub vector_by : Used → ImagePlace → Option VectorSize → Result TypeHandle Error
+vector_by u p None = Ok no_type
+vector_by u p (Some s) =
+    ok_or (option_map (λ n. record { index = n }) (first_equal (Vector s (kind_in p.coordinate.inner)) u.types)) (MissingType p.word)
+
+abbrev pub vector_for : Used → ImagePlace → Result TypeHandle Error
+vector_for u p = cond (has_more p) (vector_by u p (composed_size p.shape.dim)) (Ok no_type)
+
+abbrev pub split_of : ImagePlace → TypeHandle → Split
+split_of p v = record {
+  base = p.coordinate.handle;
+  dim = p.shape.dim;
+  extra = extra_of p.project p.shape.arrayed;
+  float = is_float (kind_in p.coordinate.inner);
+  exact = (count_in p.coordinate.inner == place_size p.shape.dim);
+  vector = v;
+}
+
+abbrev pub split_for : Used → ImagePlace → Result Split Error
+split_for u p = and_then (vector_for u p) (λ v. Ok (split_of p v))

@@ -1,0 +1,90 @@
+// A place in an image: whether a coordinate fits it, and how it is taken apart.
+ghost use Rattle.std.specs.Prelude.{◌≡◌};
+ghost use Rattle.images.specs.Places.{has_more, extra_of, place_fits, vector_for, split_for};
+ghost use Rattle.images.specs.Used.{used_of};
+
+use crate::expect::expect;
+use crate::options::{ImageShape, composed_size, coordinate_fits, place_size};
+use crate::plans::{ExtraCoordinate, Split};
+use memory::{BlockContext, FoundValue, IdBooks};
+use records::{Error, TypeHandle, TypeInner};
+use run::{count_in, is_float, kind_in};
+
+#[derive(Clone, Copy)]
+pub struct ImagePlace {
+    pub shape: ImageShape,
+    // whether the coordinate is divided by its last component
+    pub project: bool,
+    pub coordinate: FoundValue,
+    // the place of the coordinate's word
+    pub word: usize,
+}
+
+impl ImagePlace {
+    // Whether a component follows those of the place.
+    fn has_more(self) -> bool
+        ensures { result ≡ has_more self }
+    {
+        self.shape.arrayed || self.project
+    }
+
+    // What that component is.
+    fn extra(self) -> ExtraCoordinate
+        ensures { result ≡ extra_of self.project self.shape.arrayed }
+    {
+        if self.project {
+            ExtraCoordinate::Projection
+        } else if self.shape.arrayed {
+            ExtraCoordinate::ArrayLayer
+        } else {
+            ExtraCoordinate::Garbage
+        }
+    }
+
+    // The coordinate has to have components enough, Floats or integers.
+    pub fn expect_fits(self, float: bool) -> Result<(), Error>
+        ensures { result ≡ place_fits float self }
+    {
+        let fits = coordinate_fits(
+            float,
+            self.shape.dim,
+            self.has_more(),
+            self.coordinate.inner,
+        );
+        expect(fits, Error::InvalidCoordinate(self.word))
+    }
+
+    // The type of the Compose, which has to be in the list of types.
+    fn find_vector<B: IdBooks>(self, ctx: &BlockContext<'_, B>) -> Result<TypeHandle, Error>
+        ensures { result ≡ vector_for (used_of ctx.now.lists) self }
+    {
+        let none = TypeHandle { index: 0 };
+        if !self.has_more() {
+            return Ok(none);
+        }
+        let Some(size) = composed_size(self.shape.dim) else {
+            return Ok(none);
+        };
+        let kind = kind_in(self.coordinate.inner);
+        let index = ctx.first_equal(TypeInner::Vector { size, kind });
+        index
+            .map(|index| TypeHandle { index })
+            .ok_or(Error::MissingType(self.word))
+    }
+
+    pub fn find_split<B: IdBooks>(self, ctx: &BlockContext<'_, B>) -> Result<Split, Error>
+        ensures { result ≡ split_for (used_of ctx.now.lists) self }
+    {
+        let vector = self.find_vector(ctx)?;
+        let coordinate = self.coordinate;
+        let dim = self.shape.dim;
+        Ok(Split {
+            base: coordinate.handle,
+            dim,
+            extra: self.extra(),
+            float: is_float(kind_in(coordinate.inner)),
+            exact: count_in(coordinate.inner) == place_size(dim),
+            vector,
+        })
+    }
+}

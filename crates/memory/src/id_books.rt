@@ -1,0 +1,98 @@
+// The three id books by their meaning: of types, of values, and of couples of an image and a sampler.
+ghost use Rattle.std.specs.Prelude.{◌≡◌, not, is_some, ◌&&◌, ◌||◌, ◌==◌, nat_le};
+ghost use Rattle.records.specs.declared.refusals.Error.TheVariants.{InvalidResultId};
+ghost use Rattle.words.specs.Instructions.{check};
+ghost use Rattle.books.specs.Books.{count, Puts};
+ghost use Rattle.memory.specs.Shelves.{Shelf, LawfulShelf};
+ghost use Rattle.memory.specs.Lookups.{new_type, new_value, new_couple, is_free};
+
+use books::LookupHelper;
+use records::{Error, LookupExpression, LookupSampledImage, LookupType};
+use words::IdRef;
+
+// Code that is generic over it knows of the books no more than `shelf` and its laws.
+pub trait IdBooks {
+    type Types: LookupHelper<LookupType>;
+
+    type Values: LookupHelper<LookupExpression>;
+
+    type Couples: LookupHelper<LookupSampledImage>;
+
+    ghost shelf: { Self → Shelf };
+
+    ghost laws: { LawfulShelf shelf };
+
+    fn types(&self) -> &Self::Types
+        ensures { Self.Types.LookupHelper.book result.now ≡ (shelf self.now).types };
+
+    fn values(&self) -> &Self::Values
+        ensures { Self.Values.LookupHelper.book result.now ≡ (shelf self.now).values };
+
+    fn couples(&self) -> &Self::Couples
+        ensures { Self.Couples.LookupHelper.book result.now ≡ (shelf self.now).couples };
+
+    // A put is that of its own book; the two others stay.
+    fn put_type(&mut self, id: u32, item: LookupType) -> Result<(), Error>
+        ensures puts { Puts (λ s. (shelf s).types) self.old self.new id item result }
+        ensures others { shelf self.new ≡ record (shelf self.old) { types = (shelf self.new).types } };
+
+    fn put_value(&mut self, id: u32, item: LookupExpression) -> Result<(), Error>
+        ensures puts { Puts (λ s. (shelf s).values) self.old self.new id item result }
+        ensures others { shelf self.new ≡ record (shelf self.old) { values = (shelf self.new).values } };
+
+    fn put_couple(&mut self, id: u32, item: LookupSampledImage) -> Result<(), Error>
+        ensures puts { Puts (λ s. (shelf s).couples) self.old self.new id item result }
+        ensures others { shelf self.new ≡ record (shelf self.old) { couples = (shelf self.new).couples } };
+
+    // Whether an id is in no book.
+    final fn is_free(&self, id: u32) -> bool
+        ensures { result ≡ is_free (shelf self.now) id }
+    {
+        self.types().find(id).is_none()
+            && self.values().find(id).is_none()
+            && self.couples().find(id).is_none()
+    }
+
+    // Whether an id can be a new one: it is legal in its own book, and in no book.
+    final fn is_new_type(&self, id: u32) -> bool
+        ensures { result ≡ new_type (shelf self.now) id }
+    {
+        is_legal(self.types(), id) && self.is_free(id)
+    }
+
+    final fn is_new_value(&self, id: u32) -> bool
+        ensures { result ≡ new_value (shelf self.now) id }
+    {
+        is_legal(self.values(), id) && self.is_free(id)
+    }
+
+    final fn is_new_couple(&self, id: u32) -> bool
+        ensures { result ≡ new_couple (shelf self.now) id }
+    {
+        is_legal(self.couples(), id) && self.is_free(id)
+    }
+
+    final fn expect_new_value(&self, id: IdRef) -> Result<(), Error>
+        ensures { result ≡ check (not (new_value (shelf self.now) id.id)) (InvalidResultId id.place) }
+    {
+        if self.is_new_value(id.id) {
+            Ok(())
+        } else {
+            Err(Error::InvalidResultId(id.place))
+        }
+    }
+}
+
+// Whether a book takes an id at all.
+fn is_legal<R, B: LookupHelper<R>>(book: &B, id: u32) -> bool
+    ensures { result ≡ not (id == 0 || nat_le (B.LookupHelper.book book.now).bound id) }
+{
+    id != 0 && (id as usize) < book.bound()
+}
+
+// Whether a record more fits into a book.
+pub fn has_space<R, B: LookupHelper<R>>(book: &B) -> bool
+    ensures { result ≡ not (count (B.LookupHelper.book book.now) == (B.LookupHelper.book book.now).limit) }
+{
+    book.size() != book.limit()
+}
