@@ -1,6 +1,7 @@
 -- Declaring types: which may be declared, and the search for an equal one.
 use Rattle.std.specs.Prelude.{ℕ, Bool, true, false, cond, not, List, Some, None, Ok, Option, Result, ◌==◌}
 use Rattle.std.specs.Option.{ok_or}
+use Rattle.records.specs.declared.handles.TypeHandle.{TypeHandle}
 use Rattle.records.specs.declared.refusals.Error.{Error}
 use Rattle.records.specs.declared.refusals.Error.TheVariants.{InvalidType}
 use Rattle.records.specs.declared.types.ScalarKind.{ScalarKind}
@@ -41,13 +42,17 @@ is_resource (Image d a c) = true
 is_resource Sampler = true
 is_resource (BindingArray b) = true
 
+-- the type of a variable or argument, or the base of a binding array, by its id
+abbrev pub resource_for : List TypeInner → Shelf → ℕ → Result TypeHandle Error
+resource_for types b id =
+    and_then (type_for types b 0 id) (λ f.
+    and_then (check (not (is_resource f.inner)) (InvalidType 0)) (λ _.
+    Ok f.handle))
+
 -- The type that is declared, or 13. A binding array names its base by id.
 abbrev pub inner_of : List TypeInner → Shelf → TypeDeclaration → Result TypeInner Error
 inner_of types b (declared.Scalar k) = Ok (Scalar k)
 inner_of types b (declared.Vector n k) = and_then (ok_or (size_numbered n) (InvalidType 0)) (λ s. Ok (Vector s k))
 inner_of types b (declared.Image d a c) = and_then (check (not (class_fits c)) (InvalidType 0)) (λ _. Ok (Image d a c))
 inner_of types b declared.Sampler = Ok Sampler
-inner_of types b (declared.BindingArray base) =
-    and_then (type_for types b 0 base) (λ f.
-    and_then (check (not (is_resource f.inner)) (InvalidType 0)) (λ _.
-    Ok (BindingArray f.handle)))
+inner_of types b (declared.BindingArray base) = and_then (resource_for types b base) (λ h. Ok (BindingArray h))

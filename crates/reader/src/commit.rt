@@ -1,9 +1,10 @@
 // Appending the records of an instruction whose checks have passed. Nothing here can be refused.
-ghost use Rattle.std.specs.Prelude.{◌≡◌, ◌+◌};
+ghost use Rattle.std.specs.Prelude.{◌≡◌, ◌+◌, length};
 ghost use Rattle.images.specs.Records.{at, reference_records, reference_count, divided_reference, sample_records, sample_count, splatted_to, one_or_two, load_records, load_count, widened, widened_count, widened_value, store_records, store_count, split_place, split_layer, split_count};
 ghost use Rattle.reader.specs.Reads.{last_of, sample_lookup, load_lookup};
 ghost use Rattle.reader.specs.Checks.{max_expressions};
-ghost use Rattle.reader.specs.Writes.{written, Room, RoomIn, Appends};
+ghost use Rattle.reader.specs.Rooms.{RoomIn};
+ghost use Rattle.reader.specs.Writes.{written, Room, Appends};
 
 use crate::arena::Arena;
 use crate::split::extract_image_coordinates;
@@ -60,7 +61,7 @@ pub(crate) fn append_sample(
     used: u32,
     plan: SamplePlan,
 ) -> LookupExpression
-    requires { RoomIn expressions.old used (sample_count plan) max_expressions }
+    requires { RoomIn (length expressions.old) used (sample_count plan) max_expressions }
     ensures appended { expressions.new ≡ written expressions.old used (sample_records used plan) }
     ensures value { result ≡ sample_lookup used plan }
 {
@@ -94,7 +95,7 @@ pub(crate) fn append_load(
     used: u32,
     plan: LoadPlan,
 ) -> LookupExpression
-    requires { RoomIn expressions.old used (load_count plan) max_expressions }
+    requires { RoomIn (length expressions.old) used (load_count plan) max_expressions }
     ensures appended { expressions.new ≡ written expressions.old used (load_records used plan) }
     ensures value { result ≡ load_lookup used plan }
 {
@@ -156,7 +157,7 @@ pub(crate) fn append_store(
     used: u32,
     plan: StorePlan,
 ) -> StoreOperands
-    requires { RoomIn expressions.old used (store_count plan) max_expressions }
+    requires { RoomIn (length expressions.old) used (store_count plan) max_expressions }
     ensures appended { expressions.new ≡ written expressions.old used (store_records used plan) }
     ensures coordinate { result.coordinate ≡ split_place used plan.split }
     ensures layer { result.array_index ≡ split_layer used plan.split }
