@@ -1,39 +1,43 @@
 -- One cell for each id: counting the records, and putting one more.
-use Rattle.std.proofs.Common.{◌≡◌, ℕ, zero, suc, ◌+◌, ◌-◌, ◌<◌, ◌≤◌, false, cond, eqb, leb, List, length, get_or, set, is_some, Some, None, Ok, Option, sym, refl, ap, ◌∙◌, ap₂, inr, ⊎_elim, suc-add, zero-add, arith, length-set}
+use Rattle.std.proofs.Common.{◌≡◌, ℕ, zero, suc, ◌+◌, ◌-◌, ◌<◌, ◌≤◌, false, cond, eqb, leb, List, [], ◌∷◌, length, get_or, take, drop, set, is_some, Some, None, Ok, Option, sym, refl, ap, ◌∙◌, ap₂, ⊎_elim, add-one, arith, length-set}
 use mathlib.Core.Path.{fun_ext}
+use Rattle.std.proofs.Math.Seq.{take-length}
 use Rattle.std.proofs.lemmas.List.{get_or-set_same, get_or-set_other}
 use Rattle.std.proofs.lemmas.Map.{update_here, update_apart}
 use Rattle.std.proofs.lemmas.Bool.{cases_eq, cond-false, lt-leb, ne_eqb, or_from}
 use Rattle.std.specs.Map.{update}
+use Rattle.std.specs.List.{count_by}
+use Rattle.std.proofs.lemmas.List.Sums.{count_by_more_no, count_by_more_yes}
 use Rattle.books.specs.Books.{Book, one, present, count, taken, answer, added}
 use Rattle.books.specs.Direct.{direct_held, direct_book}
-use Rattle.books.specs.Laws.{present_less, direct_inside, direct_fits}
+use Rattle.books.specs.Laws.{present_less, direct_fits}
 use Rattle.books.proofs.Counts.{present_more, present_put}
 
 module _ {R : Type 0} where
-  -- the count below id + 1, by what cell id holds
-  pub counts_on : (cs : List (Option R)) (id used next : ℕ) (o : Option R) → 1 ≤ id → used ≡ present (direct_held cs) id
-      → o ≡ get_or cs id None → next ≡ used + one o → next ≡ present (direct_held cs) (id + 1)
-  counts_on cs id used next o h u e n =
-      let held : direct_held cs id ≡ get_or cs id None = cond-false (eqb id 0) None _ (ne_eqb id 0 (λ z. omega arith)) in
-      let here : one (direct_held cs id) ≡ one o = ap one (held ∙ sym e) in
-      omega (arith, present_more (direct_held cs) id)
+  past_zero : (n : ℕ) (o : Option R) → cond (eqb (suc n) 0) None o ≡ o
+  past_zero n o = cond-false (eqb (suc n) 0) None o (ne_eqb (suc n) 0 (λ z. omega arith))
 
-  pub counts_from : (cs : List (Option R)) → 0 ≡ present (direct_held cs) 1
-  counts_from cs = omega (arith, present_less (direct_held cs) 1 refl)
+  step : (c : Option R) (cs : List (Option R)) (n : ℕ) → n < length cs → (o : Option R) → get_or cs n None ≡ o
+      → present (direct_held (c ∷ cs)) (suc n) ≡ count_by is_some (take n cs) → present (direct_held (c ∷ cs)) (suc n + 1) ≡ count_by is_some (take (n + 1) cs)
+  step c cs n h None e below =
+      let here : one (direct_held (c ∷ cs) (suc n)) ≡ 0 = ap one (past_zero n _ ∙ e) in
+      omega (arith, present_more (direct_held (c ∷ cs)) (suc n), below, count_by_more_no is_some cs n None h (ap is_some e))
+  step c cs n h (Some r) e below =
+      let here : one (direct_held (c ∷ cs) (suc n)) ≡ 1 = ap one (past_zero n _ ∙ e) in
+      omega (arith, present_more (direct_held (c ∷ cs)) (suc n), below, count_by_more_yes is_some cs n None h (ap is_some e))
 
-  past : (cs : List (Option R)) (d : ℕ) → present (direct_held cs) (d + length cs) ≡ present (direct_held cs) (length cs)
+  -- the records of the ids up to n stand in the n cells after the first
+  front : (c : Option R) (cs : List (Option R)) (n : ℕ) → n ≤ length cs → present (direct_held (c ∷ cs)) (n + 1) ≡ count_by is_some (take n cs)
+  front c cs zero h = omega (arith, present_less (direct_held (c ∷ cs)) 1 refl)
+  front c cs (suc n) h =
+      step c cs n h (get_or cs n None) refl (ap (present (direct_held (c ∷ cs))) (sym (add-one n)) ∙ front c cs n (omega arith))
+      ∙ ap (λ k. count_by is_some (take k cs)) (add-one n)
+
+  pub counts_records : (cs : List (Option R)) → count_by is_some (drop 1 cs) ≡ count (direct_book cs)
   unfolding present
-  past cs zero = ap (present (direct_held cs)) (zero-add (length cs))
-  past cs (suc d) =
-      let none : one (direct_held cs (d + length cs)) ≡ 0 = ap one (direct_inside cs (d + length cs) (inr (omega arith))) in
-      omega (arith, ap (present (direct_held cs)) (suc-add d (length cs)), past cs d)
-
-  -- ids past the cells have no record
-  pub counts_all : (cs : List (Option R)) (n : ℕ) → length cs ≤ n → present (direct_held cs) n ≡ count (direct_book cs)
-  counts_all cs n h =
-      let e : n ≡ n - length cs + length cs = omega arith in
-      ap (present (direct_held cs)) e ∙ past cs (n - length cs)
+  counts_records [] = refl
+  counts_records (c ∷ cs) =
+      sym (front c cs (length cs) (omega arith) ∙ ap (count_by is_some) (take-length cs)) ∙ ap (present (direct_held (c ∷ cs))) (add-one (length cs))
 
   held_put : (cs : List (Option R)) (id : ℕ) (item : R) → (id ≡ 0 → ⊥) → id < length cs
       → direct_held (set cs id (Some item)) ≡ update eqb (direct_held cs) id (Some item)

@@ -5,5 +5,5 @@ ghost use Rattle.std.specs.Prelude.{◌≡◌, None, slice_index_or};
 pub(crate) fn at<C: Copy>(cells: &[Option<C>], i: usize) -> Option<C>
     ensures { result ≡ slice_index_or cells.now i None }
 {
-    if i < cells.len() { cells[i] } else { None }
+    cells.get(i).copied().flatten()
 }

@@ -1,5 +1,6 @@
 // The direct book: id i lives in cell i.
-ghost use Rattle.std.specs.Prelude.{◌≡◌};
+ghost use Rattle.std.specs.Prelude.{◌≡◌, is_some, drop};
+ghost use Rattle.std.specs.List.{count_by};
 ghost use Rattle.books.specs.Books.{count};
 ghost use Rattle.books.specs.Direct.{direct_book};
 ghost use Rattle.books.specs.Laws.{direct_inside, direct_fits};
@@ -7,6 +8,13 @@ ghost use Rattle.books.specs.Laws.{direct_inside, direct_fits};
 use crate::cells::at;
 use crate::{LookupHelper, TAKEN};
 use records::Error;
+
+// How many records there are: what stands in cell 0 is none.
+fn count_records<R: Copy>(cells: &[Option<R>]) -> usize
+    ensures { result ≡ count_by is_some (drop 1 cells.now) }
+{
+    cells.iter().skip(1).filter(|cell| cell.is_some()).count()
+}
 
 #[derive(Drop)]
 pub struct DirectBook<'a, R> {
@@ -21,12 +29,7 @@ impl<'a, R: Copy> DirectBook<'a, R> {
     pub fn new(cells: &'a mut [Option<R>]) -> DirectBook<'a, R>
         ensures { direct_book result.cells.now ≡ direct_book cells.old }
     {
-        let mut used = 0;
-        for id in 1..cells.len() {
-            if let Some(_) = at(cells, id) {
-                used += 1;
-            }
-        }
+        let used = count_records(cells);
         DirectBook { cells, used }
     }
 }

@@ -53,10 +53,7 @@ impl<'a, R: Copy> LookupHelper<R> for ProbingBook<'a, R> {
     ghost laws = { record { inside = λ s id outside. none_from (probing_held s.cells.now id) (s.inside id outside); fits = λ s. probing_fits s.cells.now s.used s.counted s.busy } };
 
     fn find(&self, id: u32) -> Option<R> {
-        match self.cell(self.slot(id)) {
-            Some(entry) => Some(entry.item),
-            None => None,
-        }
+        self.cell(self.slot(id)).map(|entry| entry.item)
     }
 
     fn put(&mut self, id: u32, item: R) -> Result<(), Error> {

@@ -31,10 +31,7 @@ fn following(i: usize, cells: usize) -> usize
 fn ends_at<R: Copy>(cell: Option<Entry<R>>, id: u32) -> bool
     ensures { result ≡ ends_at cell id }
 {
-    match cell {
-        None => true,
-        Some(entry) => entry.id == id,
-    }
+    cell.is_none_or(|entry| entry.id == id)
 }
 
 // The cell at which the search ends, or the number of cells if it ends at none. Whatever the cells hold, it looks at each
@@ -59,7 +56,5 @@ pub(crate) fn seek<R: Copy>(cells: &[Option<Entry<R>>], id: u32) -> usize
 pub(crate) fn clear<R: Copy>(cells: &mut [Option<Entry<R>>])
     ensures { (i : ℕ) → slice_index_or cells.new i None ≡ None }
 {
-    for i in 0..cells.len() {
-        cells[i] = None;
-    }
+    cells.fill(None);
 }

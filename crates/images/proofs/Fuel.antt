@@ -9,7 +9,7 @@ use Rattle.records.specs.declared.handles.TypeHandle.{TypeHandle}
 use Rattle.records.specs.declared.expressions.Expression.{Expression}
 use Rattle.records.specs.declared.expressions.ExpressionTag.{ExpressionTag}
 use Rattle.records.specs.declared.expressions.ExpressionTag.TheVariants as tags
-use Rattle.words.specs.Instructions.{and_then}
+use Rattle.records.specs.Refusals.{and_then}
 use Rattle.images.specs.Used.{Used}
 use Rattle.images.specs.Finds.{image_type_by, image_type_in, image_type}
 
@@ -26,20 +26,8 @@ cond_same f g b h e = at (ltb b h) (λ t. e (ltb-true b h t))
 -- only an element's base is asked for
 by_same : (f g : Below) (u : Used) (place h : ℕ) (e : Expression) (t : ExpressionTag) → (e.base.index < h → f e.base.index ≡ g e.base.index)
     → image_type_by f u place h e t ≡ image_type_by g u place h e t
-by_same f g u place h e tags.GlobalVariable same = refl
-by_same f g u place h e tags.FunctionArgument same = refl
-by_same f g u place h e tags.Constant same = refl
-by_same f g u place h e tags.Supplied same = refl
 by_same f g u place h e tags.Access same = cond_same f g e.base.index h same
-by_same f g u place h e tags.AccessIndex same = refl
-by_same f g u place h e tags.Compose same = refl
-by_same f g u place h e tags.Splat same = refl
-by_same f g u place h e tags.Swizzle same = refl
-by_same f g u place h e tags.Divide same = refl
-by_same f g u place h e tags.Round same = refl
-by_same f g u place h e tags.As same = refl
-by_same f g u place h e tags.ImageSample same = refl
-by_same f g u place h e tags.ImageLoad same = refl
+by_same f g u place h e _ same = refl
 
 then_same : (r : Result Expression Error) (f g : Expression → Result TypeHandle Error) → ((e : Expression) → f e ≡ g e) → and_then r f ≡ and_then r g
 then_same (Ok e) f g same = same e

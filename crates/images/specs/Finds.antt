@@ -1,5 +1,5 @@
 -- Which image and sampler an instruction means, and which component it gathers.
-use Rattle.std.specs.Prelude.{ℕ, zero, suc, cond, Some, None, Ok, Err, Option, Result, ◌==◌, nat_lt}
+use Rattle.std.specs.Prelude.{ℕ, zero, suc, cond, None, Ok, Err, Option, Result, nat_lt}
 use Rattle.std.specs.List.{slice_get}
 use Rattle.std.specs.Option.{ok_or, option_map}
 use Rattle.records.specs.declared.constants.Constant.{Constant}
@@ -9,7 +9,6 @@ use Rattle.records.specs.declared.expressions.Expression.{Expression}
 use Rattle.records.specs.declared.expressions.ExpressionTag.{ExpressionTag}
 use Rattle.records.specs.declared.expressions.ExpressionTag.TheVariants as tags
 use Rattle.records.specs.declared.expressions.SwizzleComponent.{SwizzleComponent}
-use Rattle.records.specs.declared.expressions.SwizzleComponent.TheVariants.{X, Y, Z, W}
 use Rattle.records.specs.declared.handles.ExpressionHandle.{ExpressionHandle}
 use Rattle.records.specs.declared.handles.FunctionArgumentHandle.{FunctionArgumentHandle}
 use Rattle.records.specs.declared.handles.GlobalVariableHandle.{GlobalVariableHandle}
@@ -22,7 +21,8 @@ use Rattle.records.specs.declared.variables.FunctionArgument.{FunctionArgument}
 use Rattle.units.specs.Arithmetic.{sint_to_bits}
 use Rattle.units.specs.declared.values.Root.{Root}
 use Rattle.units.specs.declared.values.Root.TheVariants.{Variable, Argument}
-use Rattle.words.specs.Instructions.{and_then}
+use Rattle.records.specs.Numbers.{component_numbered}
+use Rattle.records.specs.Refusals.{and_then}
 use Rattle.images.specs.declared.find.FoundResource.{FoundResource}
 use Rattle.images.specs.Rules.{array_base}
 use Rattle.images.specs.Used.{Used}
@@ -83,9 +83,6 @@ abbrev pub resource_at : Used → ℕ → ExpressionHandle → Result FoundResou
 resource_at u place h = and_then (expression_at u h) (λ e. resource_by u place e e.tag)
 
 -- The component of a gather is an integer constant from 0 to 3, by its bits; else 7.
-
-abbrev pub component_numbered : ℕ → Option SwizzleComponent
-component_numbered n = cond (n == 0) (Some X) (cond (n == 1) (Some Y) (cond (n == 2) (Some Z) (cond (n == 3) (Some W) None)))
 
 abbrev pub component_of : Literal → Option SwizzleComponent
 component_of (U32 n) = component_numbered n

@@ -6,7 +6,7 @@ use Rattle.records.specs.declared.refusals.Error.{Error}
 use Rattle.records.specs.declared.refusals.Error.TheVariants.{InvalidOperand}
 use Rattle.records.specs.declared.types.ImageDimension.{ImageDimension}
 use Rattle.records.specs.declared.types.TypeInner.{TypeInner}
-use Rattle.words.specs.Instructions.{and_then, check}
+use Rattle.records.specs.Refusals.{and_then, check}
 use Rattle.words.specs.declared.operands.IdRef.{IdRef}
 use Rattle.words.specs.declared.operands.Gradient.{Gradient}
 use Rattle.words.specs.declared.operands.ImageOperands.{ImageOperands}

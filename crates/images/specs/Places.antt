@@ -8,7 +8,7 @@ use Rattle.records.specs.declared.refusals.Error.TheVariants.{InvalidCoordinate,
 use Rattle.records.specs.declared.types.TypeInner.TheVariants.{Vector}
 use Rattle.records.specs.declared.types.VectorSize.{VectorSize}
 use Rattle.run.specs.Types.{kind_in, count_in, is_float}
-use Rattle.words.specs.Instructions.{and_then, check}
+use Rattle.records.specs.Refusals.{and_then, check}
 use Rattle.memory.specs.Firsts.{first_equal}
 use Rattle.images.specs.declared.places.ImagePlace.{ImagePlace}
 use Rattle.images.specs.declared.plans.ExtraCoordinate.{ExtraCoordinate}
@@ -31,13 +31,17 @@ abbrev pub place_fits : Bool → ImagePlace → Result (Unit {0}) Error
 place_fits float p =
     check (not (coordinate_fits float p.shape.dim (has_more p) p.coordinate.inner)) (InvalidCoordinate p.word)
 
+-- the size of the vector, where there is more than the place and the place has more than one component
+abbrev pub composed : ImagePlace → Option VectorSize
+composed p = cond (has_more p) (composed_size p.shape.dim) None
+
 abbrev pub vector_by : Used → ImagePlace → Option VectorSize → Result TypeHandle Error
 vector_by u p None = Ok no_type
 vector_by u p (Some s) =
     ok_or (option_map (λ n. record { index = n }) (first_equal (Vector s (kind_in p.coordinate.inner)) u.types)) (MissingType p.word)
 
 abbrev pub vector_for : Used → ImagePlace → Result TypeHandle Error
-vector_for u p = cond (has_more p) (vector_by u p (composed_size p.shape.dim)) (Ok no_type)
+vector_for u p = vector_by u p (composed p)
 
 abbrev pub split_of : ImagePlace → TypeHandle → Split
 split_of p v = record {

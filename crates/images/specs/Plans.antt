@@ -14,8 +14,10 @@ use Rattle.records.specs.declared.types.TypeInner.{TypeInner}
 use Rattle.records.specs.declared.types.TypeInner.TheVariants.{Sampler}
 use Rattle.records.specs.declared.types.VectorSize.TheVariants.{Quad}
 use Rattle.run.specs.Rules.{is_depth}
-use Rattle.run.specs.Types.{same_type}
-use Rattle.words.specs.Instructions.{and_then, check}
+use Rattle.records.specs.Types.{same_type}
+use Rattle.records.specs.Flags.{comparison, regular}
+use Rattle.records.specs.declared.flags.SamplingFlags.{SamplingFlags}
+use Rattle.records.specs.Refusals.{and_then, check}
 use Rattle.words.specs.Opcodes.{row_of}
 use Rattle.words.specs.declared.instructions.Ids.{Ids}
 use Rattle.words.specs.declared.instructions.Instruction.{Instruction}
@@ -124,9 +126,9 @@ level_of o ops =
     (bias_level ops.bias
     (cond o.compare (cond (stated ops.lod ops.grad) Zero Auto) (lod_level ops.lod (grad_level ops.grad))))
 
--- the flag of a sample: COMPARISON or REGULAR
-abbrev pub sampling_bit : SamplingOptions → ℕ
-sampling_bit o = cond o.compare 2 1
+-- how the image and the sampler are sampled
+abbrev pub sampling_flag : SamplingOptions → SamplingFlags
+sampling_flag o = cond o.compare comparison regular
 
 -- a Depth sample that neither compares nor gathers is splatted
 abbrev pub sample_plan : SamplingOptions → SampleParts → Split → SamplePlan
@@ -136,7 +138,7 @@ sample_plan o p s = record {
   sampler = p.couple.sampler;
   image_root = p.image;
   sampler_root = p.sampler;
-  flag = sampling_bit o;
+  flag = sampling_flag o;
   gather = p.gather;
   offset = handle_of p.operands.offset;
   level = level_of o p.operands;

@@ -10,7 +10,8 @@ use Rattle.records.specs.declared.types.ImageClass.{ImageClass}
 use Rattle.records.specs.declared.types.ImageClass.TheVariants.{Sampled, Depth, Storage}
 use Rattle.records.specs.declared.types.TypeInner.{TypeInner}
 use Rattle.records.specs.declared.types.TypeInner.TheVariants.{Scalar, Vector, Image, BindingArray}
-use Rattle.run.specs.Types.{same_type, same_kind, count_in, kind_in, class_kind, is_float, is_integer}
+use Rattle.records.specs.Types.{same_type, same_kind}
+use Rattle.run.specs.Types.{count_in, kind_in, class_kind, is_float, is_integer}
 use Rattle.run.specs.Rules.{is_int, place_type, is_depth}
 use Rattle.words.specs.declared.opcodes.Opcode.{Opcode}
 use Rattle.words.specs.declared.opcodes.Opcode.TheVariants.{SampledImage, ImageSampleImplicitLod, ImageSampleExplicitLod, ImageSampleDrefImplicitLod, ImageSampleDrefExplicitLod, ImageSampleProjImplicitLod, ImageSampleProjExplicitLod, ImageSampleProjDrefImplicitLod, ImageSampleProjDrefExplicitLod, ImageFetch, ImageGather, ImageDrefGather, ImageRead, ImageWrite}

@@ -3,9 +3,8 @@ ghost use Rattle.std.specs.Prelude.{◌≡◌};
 ghost use Rattle.images.specs.Plans.{couple_read};
 ghost use Rattle.images.specs.Used.{used_of};
 
-use crate::expect::expect;
 use memory::{BlockContext, IdBooks};
-use records::{Error, LookupSampledImage};
+use records::{Error, LookupSampledImage, expect};
 use words::Instruction;
 
 // A couple: every check but that of room, in the order of the refusals.

@@ -1,6 +1,6 @@
 // Which image and sampler an instruction means, and which component it gathers.
 ghost use Rattle.std.specs.Prelude.{◌≡◌};
-ghost use Rattle.images.specs.Finds.{expression_at, variable_type, argument_type, inner_at, image_type, resource, element_of, resource_by, resource_at, component_numbered, component_of, component_constant, component_at};
+ghost use Rattle.images.specs.Finds.{expression_at, variable_type, argument_type, inner_at, image_type, resource, element_of, resource_by, resource_at, component_of, component_constant, component_at};
 ghost use Rattle.images.specs.Used.{used_of};
 
 use crate::options::array_base;
@@ -48,6 +48,7 @@ pub fn inner_at(lists: UsedLists<'_>, ty: TypeHandle) -> Result<TypeInner, Error
 
 // The type of the image of a load or store, whose word stands at a place: that of the variable or argument, also under
 // elements.
+#[tactic(auto, using(crate::proofs::Fuel::image_type_is))]
 pub fn get_image_expr_ty(
     lists: UsedLists<'_>,
     place: usize,
@@ -118,26 +119,15 @@ pub fn find_resource(
     }
 }
 
-fn component_numbered(number: u32) -> Option<SwizzleComponent>
-    ensures { result ≡ component_numbered number }
-{
-    match number {
-        0 => Some(SwizzleComponent::X),
-        1 => Some(SwizzleComponent::Y),
-        2 => Some(SwizzleComponent::Z),
-        3 => Some(SwizzleComponent::W),
-        _ => None,
-    }
-}
-
 fn component_of(literal: Literal) -> Option<SwizzleComponent>
     ensures { result ≡ component_of literal }
 {
-    match literal {
-        Literal::U32(number) => component_numbered(number),
-        Literal::I32(number) => component_numbered(bits_of_sint(number)),
-        Literal::F32(_) => None,
-    }
+    let number = match literal {
+        Literal::U32(number) => number,
+        Literal::I32(number) => bits_of_sint(number),
+        Literal::F32(_) => return None,
+    };
+    SwizzleComponent::try_from(number).ok()
 }
 
 // The component of a gather, whose word stands at a place.

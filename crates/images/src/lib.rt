@@ -3,7 +3,6 @@
 
 mod counts;
 mod couples;
-mod expect;
 mod find;
 mod instructions;
 mod loads;

@@ -3,13 +3,12 @@ ghost use Rattle.std.specs.Prelude.{◌≡◌};
 ghost use Rattle.images.specs.Used.{used_of};
 ghost use Rattle.images.specs.Plans.{load_finds, load_plan, load_fitted, load_read};
 
-use crate::expect::expect;
 use crate::operands::{FoundOperands, find_operands, handle_of};
 use crate::options::{load_result_fits, vector_size};
 use crate::plans::{LoadPlan, Split};
 use crate::texels::{Texel, find_texel};
 use memory::{BlockContext, FoundType, IdBooks};
-use records::Error;
+use records::{Error, expect};
 use run::is_depth;
 use words::Instruction;
 

@@ -3,10 +3,9 @@ ghost use Rattle.std.specs.Prelude.{◌≡◌, Bool, MatchOption};
 ghost use Rattle.images.specs.Operands.{operand, gradient, optional, optional_grad, operands_for, handle_of, typed_by, bias_fits, lod_fits, grads_fit, operands_fit};
 ghost use Rattle.images.specs.Used.{used_of};
 
-use crate::expect::expect;
 use crate::options::{grad_fits, is_float_scalar, is_int_scalar, offset_fits};
 use memory::{BlockContext, FoundValue, IdBooks};
-use records::{Error, ExpressionHandle, ImageDimension, TypeInner};
+use records::{Error, ExpressionHandle, ImageDimension, TypeInner, expect};
 use words::{Gradient, IdRef, ImageOperands};
 
 // A value that an operand names, and the place of its word.
@@ -111,10 +110,7 @@ fn expect_typed<F: Fn(TypeInner) -> bool>(operand: Option<Operand>, right: F) ->
     ensures { MatchOption operand (result ≡ Ok tt) (λ o. (b : Bool) × F.post right o.value.inner b × (result ≡ typed_by b o)) }
 {
     match operand {
-        Some(operand) => expect(
-            right(operand.value.inner),
-            Error::InvalidOperand(operand.place),
-        ),
+        Some(Operand { value, place }) => expect(right(value.inner), Error::InvalidOperand(place)),
         None => Ok(()),
     }
 }
@@ -126,6 +122,17 @@ pub fn expect_float(operand: Option<Operand>) -> Result<(), Error>
     expect_typed(operand, is_float_scalar)
 }
 
+// The Lod of a load is an integer.
+fn expect_lod(load: bool, lod: Option<Operand>) -> Result<(), Error>
+    ensures { result ≡ lod_fits load lod }
+{
+    if load {
+        expect_typed(lod, is_int_scalar)
+    } else {
+        expect_typed(lod, is_float_scalar)
+    }
+}
+
 fn expect_grad(dim: ImageDimension, grad: Option<FoundGradient>) -> Result<(), Error>
     ensures { result ≡ grads_fit dim grad }
 {
@@ -134,16 +141,12 @@ fn expect_grad(dim: ImageDimension, grad: Option<FoundGradient>) -> Result<(), E
 }
 
 impl FoundOperands {
-    // Whether the operands have the types that they need, by rising bit; the Lod of a load is an integer.
+    // The operands have to have the types that they need, by rising bit.
     pub fn expect_types(self, load: bool, dim: ImageDimension) -> Result<(), Error>
         ensures { result ≡ operands_fit load dim self }
     {
         expect_float(self.bias)?;
-        if load {
-            expect_typed(self.lod, is_int_scalar)?;
-        } else {
-            expect_typed(self.lod, is_float_scalar)?;
-        }
+        expect_lod(load, self.lod)?;
         expect_grad(dim, self.grad)?;
         expect_typed(self.offset, |ty| offset_fits(dim, ty))?;
         expect_typed(self.sample, is_int_scalar)

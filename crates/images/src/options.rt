@@ -6,7 +6,7 @@ ghost use Rattle.images.specs.Plans.{shape_for};
 use records::{Error, ImageClass, ImageDimension, ScalarKind, TypeHandle, TypeInner, VectorSize};
 use run::{
     class_kind, count_in, is_depth, is_float, is_integer, is_integer_place, is_integer_scalar,
-    kind_in, place_type, same_kind, same_type,
+    kind_in, place_type,
 };
 use words::Opcode;
 
@@ -66,7 +66,7 @@ pub fn place_size(dim: ImageDimension) -> u32
 fn is_cube(dim: ImageDimension) -> bool
     ensures { result ≡ is_cube dim }
 {
-    matches!(dim, ImageDimension::Cube)
+    dim == ImageDimension::Cube
 }
 
 fn gatherable(dim: ImageDimension) -> bool
@@ -174,7 +174,7 @@ impl ImageShape {
 pub fn is_float_scalar(ty: TypeInner) -> bool
     ensures { result ≡ is_float_scalar ty }
 {
-    same_type(ty, TypeInner::Scalar(ScalarKind::Float))
+    ty == TypeInner::Scalar(ScalarKind::Float)
 }
 
 pub fn is_int_scalar(ty: TypeInner) -> bool
@@ -186,7 +186,7 @@ pub fn is_int_scalar(ty: TypeInner) -> bool
 pub fn grad_fits(dim: ImageDimension, ty: TypeInner) -> bool
     ensures { result ≡ grad_fits dim ty }
 {
-    same_type(ty, place_type(dim, ScalarKind::Float))
+    ty == place_type(dim, ScalarKind::Float)
 }
 
 pub fn offset_fits(dim: ImageDimension, ty: TypeInner) -> bool
@@ -220,14 +220,14 @@ pub fn load_result_fits(class: ImageClass, ty: TypeInner) -> bool
     if is_depth(class) {
         is_number(ty) && is_float(kind_in(ty))
     } else {
-        same_type(ty, texel_type(class))
+        ty == texel_type(class)
     }
 }
 
 pub fn stored_fits(class: ImageClass, ty: TypeInner) -> bool
     ensures { result ≡ stored_fits class ty }
 {
-    is_number(ty) && same_kind(kind_in(ty), class_kind(class))
+    is_number(ty) && kind_in(ty) == class_kind(class)
 }
 
 pub fn vector_size(ty: TypeInner) -> Option<VectorSize>

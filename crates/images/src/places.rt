@@ -1,13 +1,12 @@
 // A place in an image: whether a coordinate fits it, and how it is taken apart.
 ghost use Rattle.std.specs.Prelude.{◌≡◌};
-ghost use Rattle.images.specs.Places.{has_more, extra_of, place_fits, vector_for, split_for};
+ghost use Rattle.images.specs.Places.{has_more, extra_of, place_fits, composed, vector_for, split_for};
 ghost use Rattle.images.specs.Used.{used_of};
 
-use crate::expect::expect;
 use crate::options::{ImageShape, composed_size, coordinate_fits, place_size};
 use crate::plans::{ExtraCoordinate, Split};
 use memory::{BlockContext, FoundValue, IdBooks};
-use records::{Error, TypeHandle, TypeInner};
+use records::{Error, TypeHandle, TypeInner, VectorSize, expect};
 use run::{count_in, is_float, kind_in};
 
 #[derive(Clone, Copy)]
@@ -54,22 +53,28 @@ impl ImagePlace {
         expect(fits, Error::InvalidCoordinate(self.word))
     }
 
-    // The type of the Compose, which has to be in the list of types.
+    // The size of the vector that the place is put together to, if it is.
+    fn composed(self) -> Option<VectorSize>
+        ensures { result ≡ composed self }
+    {
+        if self.has_more() {
+            composed_size(self.shape.dim)
+        } else {
+            None
+        }
+    }
+
+    // The type of that vector, which has to be in the list of types; 0 where there is none.
     fn find_vector<B: IdBooks>(self, ctx: &BlockContext<'_, B>) -> Result<TypeHandle, Error>
         ensures { result ≡ vector_for (used_of ctx.now.lists) self }
     {
-        let none = TypeHandle { index: 0 };
-        if !self.has_more() {
-            return Ok(none);
-        }
-        let Some(size) = composed_size(self.shape.dim) else {
-            return Ok(none);
+        let Some(size) = self.composed() else {
+            return Ok(TypeHandle { index: 0 });
         };
         let kind = kind_in(self.coordinate.inner);
-        let index = ctx.first_equal(TypeInner::Vector { size, kind });
-        index
-            .map(|index| TypeHandle { index })
-            .ok_or(Error::MissingType(self.word))
+        let found = ctx.first_equal(TypeInner::Vector { size, kind });
+        let vector = found.map(|index| TypeHandle { index });
+        vector.ok_or(Error::MissingType(self.word))
     }
 
     pub fn find_split<B: IdBooks>(self, ctx: &BlockContext<'_, B>) -> Result<Split, Error>

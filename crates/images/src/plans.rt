@@ -1,6 +1,7 @@
 // What an instruction that passed its checks is to append: all of it is decided before the first write.
 use records::{
-    ExpressionHandle, ImageDimension, SampleLevel, SwizzleComponent, TypeHandle, VectorSize,
+    ExpressionHandle, ImageDimension, SampleLevel, SamplingFlags, SwizzleComponent, TypeHandle,
+    VectorSize,
 };
 use units::Root;
 
@@ -35,7 +36,7 @@ pub struct SamplePlan {
     // where the flag goes
     pub image_root: Root,
     pub sampler_root: Root,
-    pub flag: u32,
+    pub flag: SamplingFlags,
     pub gather: Option<SwizzleComponent>,
     pub offset: Option<ExpressionHandle>,
     pub level: SampleLevel,

@@ -1,9 +1,8 @@
 // Samples and gathers: what their ids name, and whether all of it fits.
 ghost use Rattle.std.specs.Prelude.{◌≡◌};
 ghost use Rattle.images.specs.Used.{used_of};
-ghost use Rattle.images.specs.Plans.{gather_for, reference_for, sample_finds, grad_level, level_of, sample_plan, sample_fitted, sample_read, sampler_fits};
+ghost use Rattle.images.specs.Plans.{gather_for, reference_for, sample_finds, grad_level, level_of, sampling_flag, sample_plan, sample_fitted, sample_read, sampler_fits};
 
-use crate::expect::expect;
 use crate::find::{FoundResource, find_component, find_resource};
 use crate::operands::{
     FoundGradient, FoundOperands, Operand, expect_float, find_operands, handle_of, optional,
@@ -14,10 +13,10 @@ use crate::plans::{SamplePlan, Split};
 use books::LookupHelper;
 use memory::{BlockContext, FoundType, IdBooks};
 use records::{
-    COMPARISON, Error, LookupSampledImage, REGULAR, SampleLevel, SwizzleComponent, TypeInner,
-    VectorSize,
+    Error, LookupSampledImage, SampleLevel, SamplingFlags, SwizzleComponent, TypeInner, VectorSize,
+    expect,
 };
-use run::{is_depth, same_type};
+use run::is_depth;
 use units::Root;
 use words::{IdRef, Instruction, Layout};
 
@@ -65,7 +64,7 @@ fn expect_sampler(found: FoundResource, place: usize) -> Result<(), Error>
     ensures { result ≡ sampler_fits found place }
 {
     expect(
-        same_type(found.inner, TypeInner::Sampler),
+        found.inner == TypeInner::Sampler,
         Error::InvalidGlobalVar(place),
     )
 }
@@ -147,6 +146,17 @@ impl SamplingOptions {
         }
     }
 
+    // How the image and the sampler are sampled.
+    fn flag(self) -> SamplingFlags
+        ensures { result ≡ sampling_flag self }
+    {
+        if self.compare {
+            SamplingFlags::COMPARISON
+        } else {
+            SamplingFlags::REGULAR
+        }
+    }
+
     fn plan(self, parts: SampleParts, split: Split) -> SamplePlan
         ensures { result ≡ sample_plan self parts split }
     {
@@ -158,7 +168,7 @@ impl SamplingOptions {
             sampler: parts.couple.sampler,
             image_root: parts.image,
             sampler_root: parts.sampler,
-            flag: if self.compare { COMPARISON } else { REGULAR },
+            flag: self.flag(),
             gather: parts.gather,
             offset: handle_of(parts.operands.offset),
             level: self.level(parts.operands),
@@ -181,7 +191,7 @@ fn fit_sample<B: IdBooks>(
     parts.operands.expect_types(false, place.shape.dim)?;
     expect_float(parts.reference)?;
     place.expect_fits(true)?;
-    let fits = same_type(parts.result.inner, options.result(place.shape.class));
+    let fits = parts.result.inner == options.result(place.shape.class);
     expect(fits, Error::InvalidType(instruction.ids.result_type.place))?;
     let split = place.find_split(ctx)?;
     Ok(options.plan(parts, split))

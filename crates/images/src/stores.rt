@@ -3,12 +3,11 @@ ghost use Rattle.std.specs.Prelude.{◌≡◌};
 ghost use Rattle.images.specs.Used.{used_of};
 ghost use Rattle.images.specs.Plans.{store_finds, store_plan, store_fitted, store_read};
 
-use crate::expect::expect;
 use crate::options::{stored_fits, vector_size};
 use crate::plans::{Split, StorePlan};
 use crate::texels::{Texel, find_texel};
 use memory::{BlockContext, FoundValue, IdBooks};
-use records::Error;
+use records::{Error, expect};
 use words::Instruction;
 
 // What the ids of a store name.

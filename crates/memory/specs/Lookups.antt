@@ -6,7 +6,7 @@ use Rattle.records.specs.declared.refusals.Error.{Error}
 use Rattle.records.specs.declared.refusals.Error.TheVariants.{InvalidId, Mismatch}
 use Rattle.records.specs.declared.types.TypeInner.{TypeInner}
 use Rattle.books.specs.Books.{Book, taken, count}
-use Rattle.words.specs.Instructions.{and_then, check}
+use Rattle.records.specs.Refusals.{and_then, check}
 use Rattle.memory.specs.declared.found.FoundType.{FoundType}
 use Rattle.memory.specs.declared.found.FoundValue.{FoundValue}
 use Rattle.memory.specs.Shelves.{Shelf}

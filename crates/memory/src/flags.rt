@@ -4,19 +4,17 @@ ghost use Rattle.memory.specs.Asks.{variable_flags, argument_flags};
 ghost use Rattle.memory.specs.Cells.{cells_of};
 
 use crate::lists::{Counts, Lists};
-use records::{Error, FunctionArgumentHandle, GlobalVariableHandle};
+use records::{Error, FunctionArgumentHandle, GlobalVariableHandle, SamplingFlags, expect};
 
 impl Counts {
     pub fn variable_flags(
         self,
         lists: &Lists<'_>,
         variable: GlobalVariableHandle,
-    ) -> Result<u32, Error>
+    ) -> Result<SamplingFlags, Error>
         ensures { result ≡ variable_flags (cells_of self lists.now) variable.index }
     {
-        if !self.inside(lists) {
-            return Err(Error::Mismatch);
-        }
+        expect(self.inside(lists), Error::Mismatch)?;
         let used = self.used(lists);
         let variable = used.variables.get(variable.index as usize);
         variable.map(|v| v.flags).ok_or(Error::InvalidId(0))
@@ -26,12 +24,10 @@ impl Counts {
         self,
         lists: &Lists<'_>,
         argument: FunctionArgumentHandle,
-    ) -> Result<u32, Error>
+    ) -> Result<SamplingFlags, Error>
         ensures { result ≡ argument_flags (cells_of self lists.now) argument.index }
     {
-        if !self.inside(lists) {
-            return Err(Error::Mismatch);
-        }
+        expect(self.inside(lists), Error::Mismatch)?;
         let used = self.used(lists);
         let argument = used.arguments.get(argument.index as usize);
         argument.map(|a| a.flags).ok_or(Error::InvalidId(0))

@@ -5,7 +5,7 @@ ghost use Rattle.memory.specs.Lookups.{type_for, value_for};
 use crate::context::BlockContext;
 use crate::id_books::IdBooks;
 use books::LookupHelper;
-use records::{Error, ExpressionHandle, TypeHandle, TypeInner};
+use records::{Error, ExpressionHandle, TypeHandle, TypeInner, expect};
 use words::IdRef;
 
 // A type that an id names.
@@ -43,9 +43,8 @@ impl<B: IdBooks> BlockContext<'_, B> {
     {
         let IdRef { id, place } = id;
         let lookup = self.books.values().find(id).ok_or(Error::InvalidId(place))?;
-        if self.lists.expressions.len() <= lookup.handle.index as usize {
-            return Err(Error::Mismatch);
-        }
+        let used = (lookup.handle.index as usize) < self.lists.expressions.len();
+        expect(used, Error::Mismatch)?;
         let inner = self.lists.type_at(lookup.ty).ok_or(Error::Mismatch)?;
         Ok(FoundValue {
             handle: lookup.handle,

@@ -1,13 +1,13 @@
 // The three id books by their meaning: of types, of values, and of couples of an image and a sampler.
 ghost use Rattle.std.specs.Prelude.{◌≡◌, not, is_some, ◌&&◌, ◌||◌, ◌==◌, nat_le};
 ghost use Rattle.records.specs.declared.refusals.Error.TheVariants.{InvalidResultId};
-ghost use Rattle.words.specs.Instructions.{check};
+ghost use Rattle.records.specs.Refusals.{check};
 ghost use Rattle.books.specs.Books.{count, Puts};
 ghost use Rattle.memory.specs.Shelves.{Shelf, LawfulShelf};
 ghost use Rattle.memory.specs.Lookups.{new_type, new_value, new_couple, is_free};
 
 use books::LookupHelper;
-use records::{Error, LookupExpression, LookupSampledImage, LookupType};
+use records::{Error, LookupExpression, LookupSampledImage, LookupType, expect};
 use words::IdRef;
 
 // Code that is generic over it knows of the books no more than `shelf` and its laws.
@@ -75,11 +75,7 @@ pub trait IdBooks {
     final fn expect_new_value(&self, id: IdRef) -> Result<(), Error>
         ensures { result ≡ check (not (new_value (shelf self.now) id.id)) (InvalidResultId id.place) }
     {
-        if self.is_new_value(id.id) {
-            Ok(())
-        } else {
-            Err(Error::InvalidResultId(id.place))
-        }
+        expect(self.is_new_value(id.id), Error::InvalidResultId(id.place))
     }
 }
 

@@ -6,7 +6,6 @@ mod flags;
 mod found;
 mod id_books;
 mod lists;
-mod old;
 mod search;
 mod shelf;
 
@@ -14,5 +13,4 @@ pub use context::BlockContext;
 pub use found::{FoundType, FoundValue};
 pub use id_books::{IdBooks, has_space};
 pub use lists::{Counts, Lists, has_room};
-pub use old::first_equal;
 pub use shelf::Books;

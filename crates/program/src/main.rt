@@ -13,7 +13,7 @@ use tally::Tally;
 
 fn run(rt: &HostRuntime) -> anyhow::Result<()> {
     let mut input = BufReader::new(rt.alloc(), rt.stdin())?;
-    let mut tally = Tally::new();
+    let mut tally = Tally::default();
     for number in 1..u64::MAX {
         let mut line = Vec::new(rt.alloc());
         if input.read_until(b'\n', &mut line)? == 0 {

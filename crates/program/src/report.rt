@@ -1,5 +1,5 @@
 // What is printed of an instruction: a line for each part and operand, with its place and its id; and of a refusal.
-use crate::names::{error_name, error_reason, layer_name, opcode_name};
+use crate::names::error_name;
 use records::Error;
 use std::fmt;
 use words::{IdRef, Ids, ImageOperands, Instruction, Layout};
@@ -101,9 +101,8 @@ impl fmt::Display for Accepted {
     fn fmt<W: fmt::Write>(&self, f: &mut fmt::Formatter<W>) -> fmt::Result {
         let instruction = &self.0;
         let opcode = instruction.opcode;
-        let name = opcode_name(opcode);
         let row = opcode.row();
-        write!(f, "{name}")?;
+        write!(f, "Op{opcode:?}")?;
         let image = if row.rule.is_sample() {
             "sampled image"
         } else {
@@ -119,10 +118,11 @@ impl fmt::Display for Accepted {
 
 impl fmt::Display for Refused<'_> {
     fn fmt<W: fmt::Write>(&self, f: &mut fmt::Formatter<W>) -> fmt::Result {
-        let fault = self.error.fault();
+        let error = self.error;
+        let fault = error.fault();
         let number = fault.number;
-        let name = error_name(self.error);
-        let layer = layer_name(fault.layer);
+        let name = error_name(error);
+        let layer = fault.layer;
         let place = fault.place;
         write!(
             f,
@@ -132,7 +132,6 @@ impl fmt::Display for Refused<'_> {
             Some(word) => write!(f, "word {word:x}")?,
             None => f.write_str("where no word stands")?,
         }
-        let reason = error_reason(self.error);
-        write!(f, "\n         {reason}")
+        write!(f, "\n         {error}")
     }
 }

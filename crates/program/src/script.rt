@@ -3,25 +3,38 @@ use crate::numbers::{BadWord, hex_word};
 use crate::report::{Accepted, Refused};
 use crate::tally::Tally;
 use std::str::from_utf8;
+use thiserror::Error;
 use words::parse_instruction;
 
-// The words after `read`, or the message about the first that is none.
-fn read_words(rt: &HostRuntime, number: u64, text: &str) -> anyhow::Result<Option<Vec<u32>>> {
+// Why a line is not made.
+#[derive(Debug, Drop, Error)]
+pub enum BadLine<'a> {
+    #[error("the line has no end, so it may be cut off; it is not made")]
+    NoEnd,
+    #[error("only printable ASCII characters and blanks can stand in a line")]
+    NotPlain,
+    #[error("{0} is no call")]
+    NoCall(&'a str),
+    #[error("{0} is no hexadecimal word")]
+    NotHexadecimal(&'a str),
+    #[error("{0} has more than 32 bits")]
+    TooLarge(&'a str),
+}
+
+// The words after `read`.
+fn read_words<'a>(
+    rt: &HostRuntime,
+    text: &'a str,
+) -> anyhow::Result<Result<Vec<u32>, BadLine<'a>>> {
     let mut words = Vec::new(rt.alloc());
     for token in text.split_ascii_whitespace().skip(1) {
         match hex_word(token.as_bytes()) {
             Ok(word) => words.push(word)?,
-            Err(BadWord::NotHexadecimal) => {
-                println!(rt; "line {number}: {token} is no hexadecimal word")?;
-                return Ok(None);
-            }
-            Err(BadWord::TooLarge) => {
-                println!(rt; "line {number}: {token} has more than 32 bits")?;
-                return Ok(None);
-            }
+            Err(BadWord::NotHexadecimal) => return Ok(Err(BadLine::NotHexadecimal(token))),
+            Err(BadWord::TooLarge) => return Ok(Err(BadLine::TooLarge(token))),
         }
     }
-    Ok(Some(words))
+    Ok(Ok(words))
 }
 
 // Says how many words were not read.
@@ -36,33 +49,35 @@ fn past_the_count(rt: &HostRuntime, words: &[u32]) -> anyhow::Result<()> {
     Ok(())
 }
 
-fn read(rt: &HostRuntime, number: u64, text: &str, tally: &mut Tally) -> anyhow::Result<()> {
-    let Some(words) = read_words(rt, number, text)? else {
-        tally.bad_lines = tally.bad_lines.saturating_add(1);
-        return Ok(());
-    };
-    println!(rt; "> {text}")?;
-    match parse_instruction(words.as_slice()) {
+fn read(rt: &HostRuntime, words: &[u32], tally: &mut Tally) -> anyhow::Result<()> {
+    match parse_instruction(words) {
         Ok(instruction) => {
             tally.accepted = tally.accepted.saturating_add(1);
             rt.println(Accepted(instruction))?;
-            past_the_count(rt, words.as_slice())?;
+            past_the_count(rt, words)?;
         }
         Err(error) => {
             tally.refused = tally.refused.saturating_add(1);
-            rt.println(Refused {
-                error,
-                words: words.as_slice(),
-            })?;
+            rt.println(Refused { error, words })?;
         }
     }
     Ok(())
 }
 
-fn call(rt: &HostRuntime, number: u64, text: &str, tally: &mut Tally) -> anyhow::Result<()> {
+fn call<'a>(
+    rt: &HostRuntime,
+    text: &'a str,
+    tally: &mut Tally,
+) -> anyhow::Result<Result<(), BadLine<'a>>> {
     match text.split_ascii_whitespace().next() {
         None => {}
-        Some("read") => read(rt, number, text, tally)?,
+        Some("read") => match read_words(rt, text)? {
+            Ok(words) => {
+                println!(rt; "> {text}")?;
+                read(rt, words.as_slice(), tally)?;
+            }
+            Err(bad) => return Ok(Err(bad)),
+        },
         Some("case") => println!(rt; "{text}")?,
         Some(
             "type"
@@ -81,44 +96,39 @@ fn call(rt: &HostRuntime, number: u64, text: &str, tally: &mut Tally) -> anyhow:
             tally.not_made = tally.not_made.saturating_add(1);
             println!(rt; "> {text} (not made yet)")?;
         }
-        Some(name) => {
-            tally.bad_lines = tally.bad_lines.saturating_add(1);
-            println!(rt; "line {number}: {name} is no call")?;
-        }
+        Some(name) => return Ok(Err(BadLine::NoCall(name))),
     }
-    Ok(())
+    Ok(Ok(()))
 }
 
-// Whether a line has only printable ASCII characters and blanks.
-fn is_plain(text: &[u8]) -> bool {
-    for byte in text {
-        if !matches!(*byte, b'\t' | b'\r' | b' '..=b'~') {
-            return false;
-        }
+// The text of a line as it came in: printable ASCII characters and blanks. One without an end may be cut off.
+fn plain_text(line: &[u8]) -> Result<&str, BadLine<'_>> {
+    let Some(text) = line.strip_suffix(b"\n") else {
+        return Err(BadLine::NoEnd);
+    };
+    let plain = text
+        .iter()
+        .all(|byte| matches!(*byte, b'\t' | b'\r' | b' '..=b'~'));
+    match from_utf8(text) {
+        Ok(text) if plain => Ok(text.trim_ascii()),
+        _ => Err(BadLine::NotPlain),
     }
-    true
 }
 
-// One line as it came in. One without an end may be cut off, so it is not made.
+// One line as it came in.
 pub fn make_line(
     rt: &HostRuntime,
     number: u64,
     line: &[u8],
     tally: &mut Tally,
 ) -> anyhow::Result<()> {
-    let Some(text) = line.strip_suffix(b"\n") else {
-        tally.bad_lines = tally.bad_lines.saturating_add(1);
-        println!(rt; "line {number}: the line has no end, so it may be cut off; it is not made")?;
-        return Ok(());
+    let made = match plain_text(line) {
+        Ok(text) => call(rt, text, tally)?,
+        Err(bad) => Err(bad),
     };
-    match from_utf8(text) {
-        Ok(plain) if is_plain(text) => call(rt, number, plain.trim_ascii(), tally),
-        _ => {
-            tally.bad_lines = tally.bad_lines.saturating_add(1);
-            println!(rt;
-                "line {number}: only printable ASCII characters and blanks can stand in a line"
-            )?;
-            Ok(())
-        }
+    if let Err(bad) = made {
+        tally.bad_lines = tally.bad_lines.saturating_add(1);
+        println!(rt; "line {number}: {bad}")?;
     }
+    Ok(())
 }

@@ -1,4 +1,5 @@
 pub mod Types
+pub mod Numbers
 pub mod Refusals
 pub mod Expressions
 pub mod Flags

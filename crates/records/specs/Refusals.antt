@@ -1,5 +1,5 @@
 -- The one table of the sixteen refusals: number, layer and place. Every promise refers to it.
-use Rattle.std.specs.Prelude.{ℕ, Some, None, Ok, Err, Option, Result}
+use Rattle.std.specs.Prelude.{ℕ, Bool, cond, Some, None, Ok, Err, Option, Result}
 use Rattle.records.specs.declared.refusals.Error.{Error}
 use Rattle.records.specs.declared.refusals.Error.TheVariants.{IncompleteData, InvalidOperandCount, UnsupportedInstruction, UnsupportedOperand, InvalidId, InvalidResultId, InvalidOperand, InvalidImageExpression, InvalidGlobalVar, InvalidImage, InvalidCoordinate, InvalidVectorType, InvalidType, MissingType, Full, Mismatch}
 use Rattle.records.specs.declared.refusals.Layer.{Layer}
@@ -33,3 +33,17 @@ fault_of Mismatch = fault_at 16 Memory 0
 abbrev pub refusal_of : {X : Type 0} → Result X Error → Option Fault
 refusal_of (Ok x) = None
 refusal_of (Err e) = Some (fault_of e)
+
+-- Checks, one after another: the first that fails is the answer.
+
+abbrev pub refuse : {X : Type 0} → Bool → Error → Result X Error → Result X Error
+refuse wrong e r = cond wrong (Err e) r
+
+-- a check alone
+abbrev pub check : Bool → Error → Result (Unit {0}) Error
+check wrong e = refuse wrong e (Ok tt)
+
+-- what follows a check that answers something
+abbrev pub and_then : {X Y : Type 0} → Result X Error → (X → Result Y Error) → Result Y Error
+and_then (Ok x) f = f x
+and_then (Err e) f = Err e

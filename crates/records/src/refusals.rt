@@ -1,28 +1,46 @@
 // The sixteen refusals, and what a refused call hands back.
-ghost use Rattle.std.specs.Prelude.{◌≡◌};
-ghost use Rattle.records.specs.Refusals.{fault_at, fault_of};
+ghost use Rattle.std.specs.Prelude.{◌≡◌, not};
+ghost use Rattle.records.specs.Refusals.{fault_at, fault_of, check};
 
 use self::Layer::{Ids, Memory, Rules, Words};
+use std::fmt;
+use thiserror::Error;
 
 // A refused call answers one of these. A variant carries the place of the word that it blames, where
 // that place is not the same in every instruction; the first one carries the number of words given.
-#[derive(Clone, Copy)]
+#[derive(Clone, Copy, Debug, Error)]
 pub enum Error {
+    #[error("there are no words, or fewer than the count says")]
     IncompleteData(usize),
+    #[error("the count, or the number of words after the mask, is wrong")]
     InvalidOperandCount,
+    #[error("the low 16 bits are no opcode from 56 to 63 (86 to 99 in decimal)")]
     UnsupportedInstruction,
+    #[error("a bit of the mask is neither honoured nor stepped over")]
     UnsupportedOperand(usize),
+    #[error("the id is not in its book")]
     InvalidId(usize),
+    #[error("the new id is 0, too large or taken")]
     InvalidResultId(usize),
+    #[error("the operand does not fit, or the opcode forbids the mask")]
     InvalidOperand(usize),
+    #[error("the image is no variable, argument or element")]
     InvalidImageExpression(usize),
+    #[error("image or sampler is no variable, argument or element of a variable")]
     InvalidGlobalVar(usize),
+    #[error("this is no image, or none that the instruction takes")]
     InvalidImage(usize),
+    #[error("the coordinate has the wrong kind or too few components")]
     InvalidCoordinate(usize),
+    #[error("the stored value does not fit the image")]
     InvalidVectorType(usize),
+    #[error("the type does not fit")]
     InvalidType(usize),
+    #[error("the vector type of the coordinate is not declared")]
     MissingType(usize),
+    #[error("a list or book has too few free cells")]
     Full,
+    #[error("a number lies outside the used lists")]
     Mismatch,
 }
 
@@ -33,6 +51,17 @@ pub enum Layer {
     Ids,
     Rules,
     Memory,
+}
+
+impl fmt::Display for Layer {
+    fn fmt<W: fmt::Write>(&self, f: &mut fmt::Formatter<W>) -> fmt::Result {
+        f.write_str(match self {
+            Words => "words",
+            Ids => "ids",
+            Rules => "rules",
+            Memory => "memory",
+        })
+    }
 }
 
 // The number of a refusal, its layer, and its place: the index of the blamed word, from 0.
@@ -76,4 +105,11 @@ impl Error {
             Error::Mismatch => at(16, Memory, 0),
         }
     }
+}
+
+// A check: refused by the error unless it holds.
+pub fn expect(holds: bool, error: Error) -> Result<(), Error>
+    ensures { result ≡ check (not holds) error }
+{
+    if holds { Ok(()) } else { Err(error) }
 }

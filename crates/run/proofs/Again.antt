@@ -1,5 +1,5 @@
 -- Requests made again from more values: operands that were known have the values that they had.
-use Rattle.std.proofs.Common.{◌≡◌, ℕ, zero, suc, ◌+◌, Bool, true, List, [], ◌∷◌, ◌++◌, length, take, is_some as option_is_some, Some, None, Option, unwrap_or, sym, refl, ap, ◌∙◌, append_assoc, append-nil, arith}
+use Rattle.std.proofs.Common.{◌≡◌, ℕ, zero, suc, ◌+◌, Bool, true, List, [], ◌∷◌, ◌++◌, length, take, is_some as option_is_some, Some, None, Ok, Option, unwrap_or, sym, refl, ap, ◌∙◌, append_assoc, append-nil, arith}
 use Rattle.std.specs.List.{slice_get}
 use Rattle.std.proofs.lemmas.Bool.{and_parts, false≢true}
 use Rattle.records.specs.declared.handles.ExpressionHandle.{ExpressionHandle}
@@ -19,12 +19,10 @@ use Rattle.units.specs.declared.values.Value.TheVariants.{Number}
 use Rattle.units.specs.declared.requests.Level.TheVariants.{Exact, Bias}
 use Rattle.units.specs.declared.requests.Request.{Request}
 use Rattle.units.specs.Requests.{Answers}
-use Rattle.run.specs.declared.rules.Sight.{Sight}
-use Rattle.run.specs.declared.rules.Sight.TheVariants.{Fine}
 use Rattle.run.specs.Asked.{request_tag, request_of, with_request, asked}
 use Rattle.run.specs.Envs.{Env}
 use Rattle.run.specs.Laws.{AsksAgain, AsksAnswered, AskedGrows}
-use Rattle.run.specs.Rules.{known, is_of, is_int, place_type, layer_fits, offset_fits, float_fits, integer_fits, level_fits, sample_fits, sample_type, load_fits, load_type, made_of, leaf_rule, otherwise, rule_of, seen}
+use Rattle.run.specs.Rules.{Sight, known, is_of, is_int, place_type, layer_fits, offset_fits, float_fits, integer_fits, level_fits, sample_fits, sample_type, load_fits, load_type, made_of, leaf_rule, otherwise, rule_of, seen}
 use Rattle.run.specs.Runs.{Progress, run_over, types_of, value_at}
 use Rattle.run.specs.Worth.{Values, components_of, optional, level_of, sample_request, load_request, worth_tag, worth}
 use Rattle.run.proofs.Onward.{went_on, went_after}
@@ -159,7 +157,7 @@ module _ (vs us : List Value) where
       ap Some (load_of e t _ (known_some (types_of vs e.base.index) _ t h) (of_known vs e.base.index (load_type (types_of vs) e) t h))
 
   -- of an expression that was fine by the values before it
-  pub request_again : (env : Env) (e : Expression) (t : TypeInner) → seen env (types_of vs) e ≡ Fine t → request_of (value_at (vs ++ us)) e ≡ request_of (value_at vs) e
+  pub request_again : (env : Env) (e : Expression) (t : TypeInner) → seen env (types_of vs) e ≡ Ok t → request_of (value_at (vs ++ us)) e ≡ request_of (value_at vs) e
   request_again env e t is = tag_again env e t e.tag (of_rule env _ e.result (rule_of env (types_of vs) e) t (is_of_holds (seen env (types_of vs) e) t is))
 
 -- an expression that makes a request is worth the answer to it

@@ -1,5 +1,5 @@
 -- The two passes come to what the fold comes to.
-use Rattle.std.proofs.Common.{◌≡◌, ℕ, suc, ◌+◌, List, [], ◌∷◌, ◌++◌, length, drop, is_some, Some, None, Option, sym, refl, ap, ◌∙◌, ⊎_elim, arith}
+use Rattle.std.proofs.Common.{◌≡◌, ℕ, suc, ◌+◌, List, [], ◌∷◌, ◌++◌, length, drop, is_some, Some, None, Ok, Err, Option, sym, refl, ap, ◌∙◌, ⊎_elim, arith}
 use Rattle.std.specs.List.{slice_get}
 use Rattle.std.specs.Option.{option_map}
 use Rattle.std.proofs.lemmas.Bool.{cases_lt, cond_below, cond_above, false≢true}
@@ -11,10 +11,8 @@ use Rattle.units.specs.declared.values.Value.{Value}
 use Rattle.units.specs.Requests.{Answers, Typed}
 use Rattle.units.specs.Values.{type_of}
 use Rattle.run.specs.declared.passes.Halt.{Halt}
-use Rattle.run.specs.declared.rules.Sight.{Sight}
-use Rattle.run.specs.declared.rules.Sight.TheVariants as sights
 use Rattle.run.specs.Envs.{Env}
-use Rattle.run.specs.Rules.{seen}
+use Rattle.run.specs.Rules.{Sight, seen}
 use Rattle.run.specs.Statics.{static, known_before}
 use Rattle.run.specs.Worth.{Values, worth}
 use Rattle.run.specs.Runs.{types_of, value_at, halt_of, first_halt, or_else, halting, worked, Progress, proceeds, run_over, by_passes}
@@ -52,10 +50,10 @@ InputsFit env ins es = (h : ℕ) (e : Expression) → slice_get es h ≡ Some e 
 module _ (env : Env) (answers : Answers) (typed : Typed answers) (ins : ℕ → Components) (es : List Expression) (fits : InputsFit env ins es) where
   -- one expression that is fine
   typing_on : (vs : List Value) (e : Expression) (r : List Expression) (t : TypeInner) → drop (length vs) es ≡ e ∷ r
-      → seen env (types_of vs) e ≡ sights.Fine t → Typing env es vs → Typing env es (vs ++ worth env answers ins (value_at vs) e ∷ [])
+      → seen env (types_of vs) e ≡ Ok t → Typing env es vs → Typing env es (vs ++ worth env answers ins (value_at vs) e ∷ [])
   typing_on vs e r t is fine ty =
       let here : slice_get es (length vs) ≡ Some e = nth_drop (length vs) es e r is in
-      let fine' : seen env (known_before env es (length vs)) e ≡ sights.Fine t = (λ k. seen env (λ h. sym (ty h) k) e) ∙ fine in
+      let fine' : seen env (known_before env es (length vs)) e ≡ Ok t = (λ k. seen env (λ h. sym (ty h) k) e) ∙ fine in
       typing_more env es vs _ t (worth_typed env answers typed ins vs e t (fits (length vs) e here) fine)
       (static_is env es (length vs) e here ∙ seen_static env (known_before env es (length vs)) e t fine') ty
 
@@ -66,14 +64,13 @@ module _ (env : Env) (answers : Answers) (typed : Typed answers) (ins : ℕ → 
 
   -- the end of both from what they come to after one expression that is fine
   agree_at : (vs : List Value) (n : ℕ) (e : Expression) (rest : Progress) (more : Option Halt) (all : List Value) → n ≡ length vs → Typing env es vs
-      → ((t : TypeInner) → seen env (types_of vs) e ≡ sights.Fine t → rest ≡ by_passes more all) → (s : Sight) → seen env (types_of vs) e ≡ s
+      → ((t : TypeInner) → seen env (types_of vs) e ≡ Ok t → rest ≡ by_passes more all) → (s : Sight) → seen env (types_of vs) e ≡ s
       → proceeds (seen env (types_of vs) e) (length vs) rest ≡ by_passes (or_else (halt_of (seen env (known_before env es n) e) n) more) all
   agree_at vs n e rest more all len ty next s q = ap (λ x. proceeds x (length vs) rest) q ∙ by s q ∙ sym (ap (λ x. by_passes (or_else (halt_of x n) more) all) (seen_either vs n e len ty ∙ q))
     where
       by : (s : Sight) → seen env (types_of vs) e ≡ s → proceeds s (length vs) rest ≡ by_passes (or_else (halt_of s n) more) all
-      by (sights.Fine t) q = next t q
-      by sights.Lacking q = ap (λ m. by_passes (or_else (halt_of sights.Lacking m) more) all) (sym len)
-      by sights.Outside q = refl
+      by (Ok t) q = next t q
+      by (Err miss) q = ap (λ m. by_passes (or_else (halt_of (Err miss) m) more) all) (sym len)
 
   pub agree : (r : List Expression) (vs : List Value) (n : ℕ) → n ≡ length vs → drop n es ≡ r → Typing env es vs
       → run_over env (worth env answers ins) vs r ≡ by_passes (halting env (known_before env es) n r) (worked (worth env answers ins) vs r)
@@ -87,14 +84,13 @@ module _ (env : Env) (answers : Answers) (typed : Typed answers) (ins : ℕ → 
 
   -- where no expression halts the run, the types of all values are known
   types_at : (vs : List Value) (n : ℕ) (e : Expression) (more : Option Halt) (Goal : Type 0) → n ≡ length vs → Typing env es vs
-      → or_else (halt_of (seen env (known_before env es n) e) n) more ≡ None → ((t : TypeInner) → seen env (types_of vs) e ≡ sights.Fine t → more ≡ None → Goal)
+      → or_else (halt_of (seen env (known_before env es n) e) n) more ≡ None → ((t : TypeInner) → seen env (types_of vs) e ≡ Ok t → more ≡ None → Goal)
       → (s : Sight) → seen env (types_of vs) e ≡ s → Goal
   types_at vs n e more Goal len ty none next s q = by s q (sym (ap (λ x. or_else (halt_of x n) more) (seen_either vs n e len ty ∙ q)) ∙ none)
     where
       by : (s : Sight) → seen env (types_of vs) e ≡ s → or_else (halt_of s n) more ≡ None → Goal
-      by (sights.Fine t) q m = next t q m
-      by sights.Lacking q m = absurd (false≢true (ap is_some (sym m)))
-      by sights.Outside q m = absurd (false≢true (ap is_some (sym m)))
+      by (Ok t) q m = next t q m
+      by (Err miss) q m = absurd (false≢true (ap is_some (sym m)))
 
   pub types_all : (r : List Expression) (vs : List Value) (n : ℕ) → n ≡ length vs → drop n es ≡ r → Typing env es vs
       → halting env (known_before env es) n r ≡ None → Typing env es (worked (worth env answers ins) vs r)

@@ -1,22 +1,19 @@
 -- Laws over a list in two parts.
-use Rattle.std.proofs.Common.{◌≡◌, ℕ, suc, ◌+◌, List, [], ◌∷◌, ◌++◌, length, Some, None, Option, sym, refl, ap, ◌∙◌, arith}
+use Rattle.std.proofs.Common.{◌≡◌, ℕ, suc, ◌+◌, List, [], ◌∷◌, ◌++◌, length, Some, None, Ok, Err, Option, sym, refl, ap, ◌∙◌, arith}
 use Rattle.records.specs.declared.statements.Statement.TheVariants.{Emit, ImageStore}
 use Rattle.units.specs.declared.values.Value.{Value}
 use Rattle.units.specs.declared.requests.Request.{Request}
 use Rattle.run.specs.declared.passes.Halt.{Halt}
-use Rattle.run.specs.declared.rules.Sight.{Sight}
-use Rattle.run.specs.declared.rules.Sight.TheVariants as sights
 use Rattle.run.specs.Asked.{request_of, with_request, asked}
 use Rattle.run.specs.Laws.{goes_on, RunAppends, AskedAppends, StoresAppend, StoreCountsAdd, StoreHaltsAppend}
-use Rattle.run.specs.Rules.{seen}
+use Rattle.run.specs.Rules.{Sight, seen}
 use Rattle.run.specs.Runs.{Progress, proceeds, run_over, types_of, value_at, or_else, first_halt}
 use Rattle.run.specs.Stores.{store_halt, store_request_of, stores, store_count}
 use Rattle.run.proofs.Storing.{stores_turn}
 
 proceeds_on : (s : Sight) (i : ℕ) (p : Progress) (rest : List Value → Progress) → proceeds s i (goes_on p rest) ≡ goes_on (proceeds s i p) rest
-proceeds_on (sights.Fine t) i p rest = refl
-proceeds_on sights.Lacking i p rest = refl
-proceeds_on sights.Outside i p rest = refl
+proceeds_on (Ok t) i p rest = refl
+proceeds_on (Err miss) i p rest = refl
 
 pub run_appends : RunAppends
 unfolding run_over

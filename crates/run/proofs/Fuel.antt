@@ -1,8 +1,7 @@
 -- Steps enough: a base lies below.
-use Rattle.std.proofs.Common.{◌≡◌, ℕ, zero, suc, ◌<◌, ◌≤◌, Bool, true, false, cond, ltb, List, length, get_or, Some, None, Option, sym, refl, ap, ◌∙◌, arith}
+use Rattle.std.proofs.Common.{◌≡◌, ℕ, zero, suc, ◌<◌, ◌≤◌, Bool, true, false, cond, ltb, List, Some, None, Option, sym, refl, ap, ◌∙◌, arith}
 use Rattle.std.specs.List.{slice_get}
 use Rattle.std.proofs.lemmas.Bool.{ltb-true, cond_below, cond_above}
-use Rattle.std.proofs.lemmas.Option.{slice_get-get_or}
 use Rattle.records.specs.declared.handles.TypeHandle.{TypeHandle}
 use Rattle.records.specs.declared.types.TypeInner.{TypeInner}
 use Rattle.records.specs.declared.expressions.Expression.{Expression}
@@ -47,21 +46,17 @@ unfolding static_in
 static_past env es h is = ap (λ o. on o (λ x. static_of env (cond (ltb x.base.index h) (static_in h env es x.base.index) None) x x.result)) is
 
 -- as the code goes: a record read from the list, whose type is stated, or is made of its base's
-pub static_stated : (env : Env) (es : List Expression) (h : ℕ) (d : Expression) (r : TypeHandle) (t : Option TypeInner) → h < length es
-    → (get_or es h d).result ≡ Some r → t ≡ env.types r.index → t ≡ static env es h
-static_stated env es h d r t l is e =
-    let x = get_or es h d in
-    sym (static_is env es h x (slice_get-get_or es h d l)
-    ∙ ap (static_of env (cond (ltb x.base.index h) (static env es x.base.index) None) x) is ∙ sym e)
+pub static_stated : (env : Env) (es : List Expression) (h : ℕ) (e : Expression) (r : TypeHandle) (t : Option TypeInner) → slice_get es h ≡ Some e
+    → e.result ≡ Some r → t ≡ env.types r.index → t ≡ static env es h
+static_stated env es h e r t here is made =
+    made ∙ sym (static_is env es h e here ∙ ap (static_of env (cond (ltb e.base.index h) (static env es e.base.index) None) e) is)
 
-pub static_made : (env : Env) (es : List Expression) (h : ℕ) (d : Expression) (below t : Option TypeInner) → h < length es
-    → (get_or es h d).result ≡ None → below ≡ cond (ltb (get_or es h d).base.index h) (static env es (get_or es h d).base.index) None
-    → t ≡ static_tag env below (get_or es h d) (get_or es h d).tag → t ≡ static env es h
-static_made env es h d below t l is b e =
-    let x = get_or es h d in
-    e ∙ ap (λ o. static_tag env o x x.tag) b
-    ∙ sym (static_is env es h x (slice_get-get_or es h d l)
-    ∙ ap (static_of env (cond (ltb x.base.index h) (static env es x.base.index) None) x) is)
+pub static_made : (env : Env) (es : List Expression) (h : ℕ) (e : Expression) (below t : Option TypeInner) → slice_get es h ≡ Some e
+    → e.result ≡ None → below ≡ cond (ltb e.base.index h) (static env es e.base.index) None
+    → t ≡ static_tag env below e e.tag → t ≡ static env es h
+static_made env es h e below t here is base made =
+    made ∙ ap (λ o. static_tag env o e e.tag) base
+    ∙ sym (static_is env es h e here ∙ ap (static_of env (cond (ltb e.base.index h) (static env es e.base.index) None) e) is)
 
 pub below_then : (b h : ℕ) (below t : Option TypeInner) → b < h → below ≡ t → below ≡ cond (ltb b h) t None
 below_then b h below t l e = e ∙ cond_below b h t None l

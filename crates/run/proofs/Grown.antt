@@ -1,5 +1,5 @@
 -- A run that goes on to the end over some lists does so over longer ones, with the same values.
-use Rattle.std.proofs.Common.{◌≡◌, ℕ, ◌<◌, ◌≤◌, Bool, true, false, cond, ◌&&◌, ◌||◌, ltb, List, [], ◌∷◌, ◌++◌, length, get_or, is_some, Some, None, Option, unwrap_or, sym, refl, ap, ◌∙◌, subst, arith}
+use Rattle.std.proofs.Common.{◌≡◌, ℕ, ◌<◌, ◌≤◌, Bool, true, false, cond, ◌&&◌, ◌||◌, ltb, List, [], ◌∷◌, ◌++◌, length, get_or, is_some, Some, None, Ok, Err, Option, unwrap_or, sym, refl, ap, ◌∙◌, subst, arith}
 use Rattle.std.specs.Option.{option_map}
 use Rattle.std.proofs.lemmas.Bool.{and_parts, and_from, ltb-true, lt-ltb, false≢true}
 use Rattle.records.specs.declared.handles.TypeHandle.{TypeHandle}
@@ -18,15 +18,15 @@ use Rattle.units.specs.declared.values.Value.{Value}
 use Rattle.units.specs.declared.values.Value.TheVariants.{Number, Texture}
 use Rattle.units.specs.Requests.{Answers}
 use Rattle.units.specs.Values.{as_handle, type_of}
-use Rattle.run.specs.declared.rules.Sight.{Sight}
-use Rattle.run.specs.declared.rules.Sight.TheVariants.{Fine, Lacking, Outside}
+use Rattle.run.specs.declared.rules.Miss.TheVariants.{Lacking, Outside}
 use Rattle.run.specs.Envs.{Env}
 use Rattle.run.specs.Laws.{Grows, RunGrows}
-use Rattle.run.specs.Rules.{Known, listed, known, fine, test, is_int, texture_type, resource, element, inside_one, inside_option, inside_level, inside_components, inside_image, inside_tag, inside_result, made_of, leaf_rule, otherwise, rule_of, result_fits, resulting, seen}
+use Rattle.run.specs.Rules.{Sight, Known, listed, known, fine, test, is_int, texture_type, resource, element, inside_one, inside_option, inside_level, inside_components, inside_image, inside_tag, inside_result, made_of, leaf_rule, otherwise, rule_of, result_fits, resulting, seen}
 use Rattle.run.specs.Runs.{proceeds, run_over, types_of, value_at}
 use Rattle.run.specs.Runs.Progress.{Went}
 use Rattle.run.specs.Statics.{type_by, element_type}
-use Rattle.run.specs.Types.{size_of, same_type}
+use Rattle.records.specs.Numbers.{size_of}
+use Rattle.records.specs.Types.{same_type}
 use Rattle.run.specs.Worth.{no_components, literal_components, resource_of, texture_type_of, whole, element_of, worth_tag, worth}
 use Rattle.run.proofs.Onward.{went_on}
 use Rattle.run.proofs.Sound.{Of, is_of_holds, of_rule, of_known}
@@ -55,7 +55,7 @@ listed_stays : {X : Type 0} (o p : Option X) (f g : X → Sight) → ((x : X) �
 listed_stays None p f g keeps on t h = absurd h
 listed_stays (Some x) p f g keeps on t h = subst (λ o. Of t (listed o g)) (sym (keeps x refl)) (on x t h)
 
-guard_stays : (b : Bool) (s s' : Sight) → Stays s s' → Stays (cond b s Lacking) (cond b s' Lacking)
+guard_stays : (b : Bool) (s s' : Sight) → Stays s s' → Stays (cond b s (Err Lacking)) (cond b s' (Err Lacking))
 guard_stays true s s' on t h = on t h
 guard_stays false s s' on t h = absurd h
 
@@ -63,8 +63,8 @@ known_stays : (o : Option TypeInner) (f g : TypeInner → Sight) → ((u : TypeI
 known_stays None f g on t h = absurd h
 known_stays (Some u) f g on t h = on u t h
 
-inside_stays : (b b' : Bool) (s s' : Sight) → Holds b b' → Stays s s' → Stays (cond b s Outside) (cond b' s' Outside)
-inside_stays true b' s s' f on t h = subst (λ x. Of t (cond x s' Outside)) (sym (f refl)) (on t h)
+inside_stays : (b b' : Bool) (s s' : Sight) → Holds b b' → Stays s s' → Stays (cond b s (Err Outside)) (cond b' s' (Err Outside))
+inside_stays true b' s s' f on t h = subst (λ x. Of t (cond x s' (Err Outside))) (sym (f refl)) (on t h)
 inside_stays false b' s s' f on t h = absurd h
 
 -- what is listed is the same in both
@@ -72,10 +72,9 @@ listed_same : {X : Type 0} (o p : Option X) (f : X → Sight) (t : TypeInner) �
 listed_same None p f t keeps h = absurd h
 listed_same (Some x) p f t keeps h = sym (keeps x refl)
 
-of_fine : (s : Sight) (t : TypeInner) → Of t s → s ≡ Fine t
-of_fine (Fine u) t h = ap Fine h
-of_fine Lacking t h = absurd h
-of_fine Outside t h = absurd h
+of_fine : (s : Sight) (t : TypeInner) → Of t s → s ≡ Ok t
+of_fine (Ok u) t h = ap Ok h
+of_fine (Err miss) t h = absurd h
 
 module _ (env env' : Env) (grows : Grows env env') where
   -- numbers that lie inside
@@ -184,11 +183,10 @@ module _ (env env' : Env) (grows : Grows env env') where
   fits_stays (Some r) u t h = type_stays r.index (λ r. test (same_type u r) u) t h
 
   resulting_stays : (o : Option TypeHandle) (s s' : Sight) → Stays s s' → Stays (resulting env o s) (resulting env' o s')
-  resulting_stays o (Fine u) s' on t h = subst (λ x. Of t (resulting env' o x)) (sym (of_fine s' u (on u refl))) (fits_stays o u t h)
-  resulting_stays o Lacking s' on t h = absurd h
-  resulting_stays o Outside s' on t h = absurd h
+  resulting_stays o (Ok u) s' on t h = subst (λ x. Of t (resulting env' o x)) (sym (of_fine s' u (on u refl))) (fits_stays o u t h)
+  resulting_stays o (Err miss) s' on t h = absurd h
 
-  pub seen_grows : (tys : Known) (e : Expression) (t : TypeInner) → seen env tys e ≡ Fine t → seen env' tys e ≡ Fine t
+  pub seen_grows : (tys : Known) (e : Expression) (t : TypeInner) → seen env tys e ≡ Ok t → seen env' tys e ≡ Ok t
   seen_grows tys e t is =
       of_fine (seen env' tys e) t
       (inside_stays _ _ _ _ (and_holds _ _ _ _ (result_holds e.result) (tag_holds e e.tag))
@@ -206,7 +204,7 @@ module _ (env env' : Env) (grows : Grows env env') where
   element_type_same (Texture r) i t h = by r.ty h
     where
       inner : (b : Bool) (o p : Option TypeInner) → ((u : TypeInner) → o ≡ Some u → p ≡ Some u)
-          → Of t (cond b (listed o (λ u. fine (texture_type u))) Lacking) → o ≡ p
+          → Of t (cond b (listed o (λ u. fine (texture_type u))) (Err Lacking)) → o ≡ p
       inner true o p keeps h = listed_same o p _ t keeps h
       inner false o p keeps h = absurd h
 
@@ -246,7 +244,7 @@ module _ (env env' : Env) (grows : Grows env env') where
     tag_same vs e t ImageLoad h = refl
 
     -- where a type is seen
-    pub worth_grows : (vs : List Value) (e : Expression) (t : TypeInner) → seen env (types_of vs) e ≡ Fine t
+    pub worth_grows : (vs : List Value) (e : Expression) (t : TypeInner) → seen env (types_of vs) e ≡ Ok t
         → worth env answers ins (value_at vs) e ≡ worth env' answers ins (value_at vs) e
     worth_grows vs e t is = tag_same vs e t e.tag (of_rule env _ e.result (rule_of env (types_of vs) e) t (is_of_holds (seen env (types_of vs) e) t is))
 

@@ -1,4 +1,3 @@
-pub mod Sames
 pub mod Fuel
 pub mod Places
 pub mod Steps

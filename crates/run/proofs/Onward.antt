@@ -1,13 +1,11 @@
 -- A run that goes on to the end, one expression at a time.
-use Rattle.std.proofs.Common.{◌≡◌, suc, ◌+◌, Bool, true, false, List, [], ◌∷◌, ◌++◌, length, sym, refl, ap, ◌∙◌, append_assoc, append-nil, arith}
+use Rattle.std.proofs.Common.{◌≡◌, suc, ◌+◌, Bool, true, false, List, [], ◌∷◌, ◌++◌, length, sym, refl, ap, ◌∙◌, append_assoc, append-nil, arith, Ok, Err}
 use Rattle.std.proofs.lemmas.Bool.{false≢true}
 use Rattle.records.specs.declared.types.TypeInner.{TypeInner}
 use Rattle.records.specs.declared.expressions.Expression.{Expression}
 use Rattle.units.specs.declared.values.Value.{Value}
-use Rattle.run.specs.declared.rules.Sight.{Sight}
-use Rattle.run.specs.declared.rules.Sight.TheVariants.{Fine, Lacking, Outside}
 use Rattle.run.specs.Envs.{Env}
-use Rattle.run.specs.Rules.{seen}
+use Rattle.run.specs.Rules.{Sight, seen}
 use Rattle.run.specs.Runs.{Progress, proceeds, run_over, types_of, value_at}
 use Rattle.run.specs.Worth.{Values}
 use Rattle.run.proofs.Places.{one_more}
@@ -15,7 +13,7 @@ use Rattle.run.proofs.Places.{one_more}
 -- the first expression was fine, and the run went on over the rest
 pub record Onward (env : Env) (w : Values → Expression → Value) (vs : List Value) (e : Expression) (es : List Expression) (us : List Value) : Type 0 where
   pub ty : TypeInner
-  pub fine : seen env (types_of vs) e ≡ Fine ty
+  pub fine : seen env (types_of vs) e ≡ Ok ty
   pub rest : run_over env w (vs ++ w (value_at vs) e ∷ []) es ≡ Progress.Went us
 
 abbrev went : Progress → Bool
@@ -29,9 +27,8 @@ went_on env w vs e es us is = by (seen env (types_of vs) e) refl is
   where
     by : (s : Sight) → seen env (types_of vs) e ≡ s → proceeds s (length vs) (run_over env w (vs ++ w (value_at vs) e ∷ []) es) ≡ Progress.Went us
         → Onward env w vs e es us
-    by (Fine t) q is = record { ty = t; fine = q; rest = is }
-    by Lacking q is = absurd (false≢true (ap went is))
-    by Outside q is = absurd (false≢true (ap went is))
+    by (Ok t) q is = record { ty = t; fine = q; rest = is }
+    by (Err miss) q is = absurd (false≢true (ap went is))
 
 -- the values of a run stand after those before it
 abbrev values_in : Progress → List Value

@@ -1,16 +1,6 @@
 -- Reading a list: its first i, its rest, and what was put after it.
-use Rattle.std.proofs.Common.{◌≡◌, ℕ, zero, suc, ◌<◌, ◌≤◌, List, [], ◌∷◌, ◌++◌, length, get_or, take, drop, Some, sym, refl, ap, ◌∙◌, arith}
+use Rattle.std.proofs.Common.{◌≡◌, ℕ, zero, suc, ◌<◌, List, [], ◌∷◌, ◌++◌, length, take, drop, Some, refl, ap, arith}
 use Rattle.std.specs.List.{slice_get}
-use Rattle.std.proofs.lemmas.List.{get_or-take, get_or_default, get_or_past, length-take}
-
-pub get_or_taken : {X : Type 0} (xs : List X) (i h : ℕ) (d e : X) → h < i → h < length xs → get_or xs h d ≡ get_or (take i xs) h e
-get_or_taken xs i h d e l m = sym (get_or-take i xs h e l ∙ get_or_default xs h e d m)
-
-pub get_or_untaken : {X : Type 0} (xs : List X) (i h : ℕ) (e : X) → i ≤ h → e ≡ get_or (take i xs) h e
-get_or_untaken xs i h e m = let n = length-take i xs in sym (get_or_past (take i xs) h e (omega arith))
-
-pub get_or_missing : {X : Type 0} (xs : List X) (i h : ℕ) (e : X) → length xs ≤ h → e ≡ get_or (take i xs) h e
-get_or_missing xs i h e m = let n = length-take i xs in sym (get_or_past (take i xs) h e (omega arith))
 
 pub nth_before : {X : Type 0} (xs ys : List X) (h : ℕ) → h < length xs → slice_get (xs ++ ys) h ≡ slice_get xs h
 nth_before [] ys h l = absurd (omega arith)

@@ -1,6 +1,7 @@
 -- Where the first pass sees a type, the records alone give that type too.
-use Rattle.std.proofs.Common.{◌≡◌, Bool, true, false, cond, ◌&&◌, Some, None, Option, sym, refl, ap, ◌∙◌}
+use Rattle.std.proofs.Common.{◌≡◌, Bool, true, false, cond, ◌&&◌, Some, None, Ok, Err, Option, sym, refl, ap, ◌∙◌}
 use Rattle.std.proofs.lemmas.Bool.{false≢true}
+use Rattle.records.proofs.Equal.{types_decided}
 use Rattle.records.specs.declared.constants.Literal.{Literal}
 use Rattle.records.specs.declared.handles.TypeHandle.{TypeHandle}
 use Rattle.records.specs.declared.expressions.ExpressionTag.{ExpressionTag}
@@ -9,36 +10,33 @@ use Rattle.records.specs.declared.expressions.Expression.{Expression}
 use Rattle.records.specs.declared.types.ScalarKind.TheVariants.{Sint, Float}
 use Rattle.records.specs.declared.types.TypeInner.{TypeInner}
 use Rattle.records.specs.declared.types.TypeInner.TheVariants.{Scalar, Vector, Image, Sampler, BindingArray}
-use Rattle.run.specs.declared.rules.Sight.{Sight}
-use Rattle.run.specs.declared.rules.Sight.TheVariants.{Fine, Lacking, Outside}
+use Rattle.run.specs.declared.rules.Miss.TheVariants.{Lacking, Outside}
 use Rattle.run.specs.Envs.{Env}
-use Rattle.run.specs.Types.{same_type, on, when, kind_in, part_type}
-use Rattle.run.specs.Rules.{Known, listed, known, fine, test, texture_type, number_type, literal_type, resource, element, compose_type, splat_type, swizzle_type, castable, cast_type, sample_type, load_type, inside_result, inside_tag, made_of, leaf_rule, otherwise, rule_of, resulting, seen}
+use Rattle.records.specs.Types.{same_type}
+use Rattle.run.specs.Types.{on, when, kind_in, part_type}
+use Rattle.run.specs.Rules.{Sight, Known, listed, known, fine, test, texture_type, number_type, literal_type, resource, element, compose_type, splat_type, swizzle_type, castable, cast_type, sample_type, load_type, inside_result, inside_tag, made_of, leaf_rule, otherwise, rule_of, resulting, seen}
 use Rattle.run.specs.Statics.{type_by, element_type, sampled_type, loaded_type, static_tag, static_of}
-use Rattle.run.proofs.Sames.{same_true}
 
 -- a type that a sight finds is this one
 abbrev Gives : Sight → Option TypeInner → Type 0
-Gives s o = (t : TypeInner) → s ≡ Fine t → o ≡ Some t
+Gives s o = (t : TypeInner) → s ≡ Ok t → o ≡ Some t
 
 -- what tells the sights apart, and what a fine one holds
 abbrev is_fine : Sight → Bool
-is_fine (Fine t) = true
-is_fine Lacking = false
-is_fine Outside = false
+is_fine (Ok t) = true
+is_fine (Err miss) = false
 
 abbrev type_in : Sight → Option TypeInner
-type_in (Fine t) = Some t
-type_in Lacking = None
-type_in Outside = None
+type_in (Ok t) = Some t
+type_in (Err miss) = None
 
-of_lacking : (o : Option TypeInner) → Gives Lacking o
+of_lacking : (o : Option TypeInner) → Gives (Err Lacking) o
 of_lacking o t h = absurd (false≢true (ap is_fine h))
 
-of_outside : (o : Option TypeInner) → Gives Outside o
+of_outside : (o : Option TypeInner) → Gives (Err Outside) o
 of_outside o t h = absurd (false≢true (ap is_fine h))
 
-of_fine : (t : TypeInner) → Gives (Fine t) (Some t)
+of_fine : (t : TypeInner) → Gives (Ok t) (Some t)
 of_fine t u h = ap type_in h
 
 of_test : (b : Bool) (t : TypeInner) → Gives (test b t) (Some t)
@@ -59,7 +57,7 @@ of_resource : (env : Env) (o : Option TypeHandle) → Gives (resource env o) (ty
 of_resource env None = of_outside None
 of_resource env (Some h) = of_texture (env.types h.index)
 
-of_literal : (o : Option Literal) → Gives (listed o (λ l. Fine (literal_type l))) (on o (λ l. Some (literal_type l)))
+of_literal : (o : Option Literal) → Gives (listed o (λ l. Ok (literal_type l))) (on o (λ l. Some (literal_type l)))
 of_literal None = of_outside None
 of_literal (Some l) = of_fine (literal_type l)
 
@@ -85,7 +83,7 @@ of_when : (b : Bool) (t : TypeInner) → Gives (fine (when b t)) (Some t)
 of_when true t = of_fine t
 of_when false t = of_lacking (Some t)
 
-of_guard : (b : Bool) (s : Sight) (o : Option TypeInner) → Gives s o → Gives (cond b s Lacking) o
+of_guard : (b : Bool) (s : Sight) (o : Option TypeInner) → Gives s o → Gives (cond b s (Err Lacking)) o
 of_guard true s o g = g
 of_guard false s o g = of_lacking o
 
@@ -181,7 +179,7 @@ of_tag env tys e o ImageLoad = of_known env tys e ImageLoad o
 -- a stated type is the one that the rule gave, or nothing is seen
 of_stated : (t : TypeInner) (o : Option TypeInner) → Gives (listed o (λ r. test (same_type t r) t)) o
 of_stated t None = of_outside None
-of_stated t (Some r) = at (same_type t r) (same_true t r)
+of_stated t (Some r) = at (same_type t r) (types_decided t r).0
   where
     at : (b : Bool) → (b ≡ true → t ≡ r) → Gives (test b t) (Some r)
     at true same u h = ap Some (sym (same refl)) ∙ of_fine t u h
@@ -189,17 +187,17 @@ of_stated t (Some r) = at (same_type t r) (same_true t r)
 
 of_result_holds : (env : Env) (base : Option TypeInner) (e : Expression) (o : Option TypeHandle) (s : Sight)
     → Gives s (static_tag env base e e.tag) → Gives (resulting env o s) (static_of env base e o)
-of_result_holds env base e None (Fine t) g = g
-of_result_holds env base e (Some h) (Fine t) g = of_stated t (env.types h.index)
-of_result_holds env base e o Lacking g = of_lacking _
-of_result_holds env base e o Outside g = of_outside _
+of_result_holds env base e None (Ok t) g = g
+of_result_holds env base e (Some h) (Ok t) g = of_stated t (env.types h.index)
+of_result_holds env base e o (Err Lacking) g = of_lacking _
+of_result_holds env base e o (Err Outside) g = of_outside _
 
-of_inside : (b : Bool) (s : Sight) (o : Option TypeInner) → Gives s o → Gives (cond b s Outside) o
+of_inside : (b : Bool) (s : Sight) (o : Option TypeInner) → Gives s o → Gives (cond b s (Err Outside)) o
 of_inside true s o g = g
 of_inside false s o g = of_outside o
 
 pub seen_static : (env : Env) (tys : Known) (e : Expression) (t : TypeInner)
-    → seen env tys e ≡ Fine t → static_of env (tys e.base.index) e e.result ≡ Some t
+    → seen env tys e ≡ Ok t → static_of env (tys e.base.index) e e.result ≡ Some t
 seen_static env tys e =
     let base = tys e.base.index in
     of_inside (inside_result env e.result && inside_tag env e e.tag) _ _

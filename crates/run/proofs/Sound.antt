@@ -1,7 +1,8 @@
 -- A value is of the type that was seen: the link between the rules and the values.
-use Rattle.std.proofs.Common.{◌≡◌, ℕ, zero, suc, Bool, true, false, cond, not, ◌&&◌, ◌||◌, eqb, List, [], ◌∷◌, is_some, Some, None, Option, unwrap_or, sym, refl, ap, ◌∙◌, subst}
+use Rattle.std.proofs.Common.{◌≡◌, ℕ, zero, suc, Bool, true, false, cond, not, ◌&&◌, ◌||◌, eqb, List, [], ◌∷◌, is_some, Some, None, Ok, Err, Option, unwrap_or, sym, refl, ap, ◌∙◌, subst}
 use Rattle.std.specs.Option.{option_map}
 use Rattle.std.proofs.lemmas.Bool.{and_parts, false≢true}
+use Rattle.records.proofs.Equal.{types_decided}
 use Rattle.records.specs.declared.constants.Literal.{Literal}
 use Rattle.records.specs.declared.constants.Literal.TheVariants.{U32, I32, F32}
 use Rattle.records.specs.declared.handles.TypeHandle.{TypeHandle}
@@ -25,26 +26,25 @@ use Rattle.units.specs.declared.values.Lanes.TheVariants as lanes
 use Rattle.units.specs.declared.values.Components.{Components}
 use Rattle.units.specs.declared.values.Value.{Value}
 use Rattle.units.specs.declared.values.Value.TheVariants.{Number, Texture}
-use Rattle.units.specs.Values.{kind_of, shape, as_handle, type_of}
+use Rattle.units.specs.Values.{width_of, kind_of, shape, as_handle, type_of}
 use Rattle.units.specs.Operations.{chosen_of, composed_of, rounded_of, casted_of, rounded, casted, chosen, composed}
 use Rattle.units.specs.Requests.{Answers, Typed, is_gather, clean_lanes, clean}
-use Rattle.run.specs.declared.rules.Sight.{Sight}
-use Rattle.run.specs.declared.rules.Sight.TheVariants.{Fine, Lacking, Outside}
+use Rattle.run.specs.declared.rules.Miss.TheVariants.{Lacking, Outside}
 use Rattle.run.specs.Envs.{Env}
-use Rattle.run.specs.Types.{size_of, same_type, when, scalar_kind, kind_in, part_type}
-use Rattle.run.specs.Rules.{Known, listed, known, fine, test, is_of, is_int, texture_type, number_type, literal_type, resource, element, composes, compose_type, splat_type, swizzle_type, cast_type, is_depth, answered_by, sample_fits, sample_type, load_fits, load_type, made_of, leaf_rule, otherwise, rule_of, result_fits, resulting, seen}
+use Rattle.records.specs.Numbers.{size_of}
+use Rattle.records.specs.Types.{same_type}
+use Rattle.run.specs.Types.{when, scalar_kind, kind_in, part_type}
+use Rattle.run.specs.Rules.{Sight, Known, listed, known, fine, test, is_of, is_int, texture_type, number_type, literal_type, resource, element, composes, compose_type, splat_type, swizzle_type, cast_type, is_depth, answered_by, sample_fits, sample_type, load_fits, load_type, made_of, leaf_rule, otherwise, rule_of, result_fits, resulting, seen}
 use Rattle.run.specs.Statics.{type_by, element_type}
-use Rattle.run.specs.Worth.{Values, width_of, no_components, components_of, texture_type_of, literal_components, numbers_of, handle_at, optional, depth_of, sort_of, sample_request, load_request, worth_tag, worth}
+use Rattle.run.specs.Worth.{Values, no_components, components_of, texture_type_of, literal_components, numbers_of, handle_at, optional, depth_of, sort_of, sample_request, load_request, worth_tag, worth}
 use Rattle.run.specs.Runs.{value_at, types_of}
-use Rattle.run.proofs.Sames.{same_true}
 
 -- that a sight is fine, of a type: it computes, so that a refused case gives ⊥
 abbrev pub Of : TypeInner → Sight → Type 0
-Of t (Fine u) = u ≡ t
-Of t Lacking = ⊥
-Of t Outside = ⊥
+Of t (Ok u) = u ≡ t
+Of t (Err miss) = ⊥
 
-pub is_of_holds : (s : Sight) (t : TypeInner) → s ≡ Fine t → Of t s
+pub is_of_holds : (s : Sight) (t : TypeInner) → s ≡ Ok t → Of t s
 is_of_holds s t e = subst (Of t) (sym e) refl
 
 pub of_test : (b : Bool) (u t : TypeInner) → Of t (test b u) → (b ≡ true) × (u ≡ t)
@@ -64,11 +64,10 @@ of_result_holds env (Some r) u t h = by (env.types r.index) h
     by None h = absurd h
     by (Some r) h = (of_test (same_type u r) u t h).1
 
-pub of_rule : (env : Env) (b : Bool) (o : Option TypeHandle) (s : Sight) (t : TypeInner) → Of t (cond b (resulting env o s) Outside) → Of t s
+pub of_rule : (env : Env) (b : Bool) (o : Option TypeHandle) (s : Sight) (t : TypeInner) → Of t (cond b (resulting env o s) (Err Outside)) → Of t s
 of_rule env false o s t h = absurd h
-of_rule env true o (Fine u) t h = of_result_holds env o u t h
-of_rule env true o Lacking t h = absurd h
-of_rule env true o Outside t h = absurd h
+of_rule env true o (Ok u) t h = of_result_holds env o u t h
+of_rule env true o (Err miss) t h = absurd h
 
 -- a known operand type is the type of the value there
 pub of_known : (vs : List Value) (n : ℕ) (f : TypeInner → Sight) (t : TypeInner) → Of t (known (types_of vs n) f) → Of t (f (type_of (value_at vs n)))
@@ -78,7 +77,7 @@ of_known (v ∷ vs) (suc n) f t h = of_known vs n f t h
 
 known_is : (vs : List Value) (n : ℕ) (u : TypeInner) → is_of (types_of vs n) u ≡ true → type_of (value_at vs n) ≡ u
 known_is [] n u h = absurd (false≢true h)
-known_is (v ∷ vs) zero u h = same_true (type_of v) u h
+known_is (v ∷ vs) zero u h = (types_decided (type_of v) u).0 h
 known_is (v ∷ vs) (suc n) u h = known_is vs n u h
 
 -- operations keep the kind of lanes
@@ -159,7 +158,7 @@ rounded_of_holds : (v : Value) (k : ScalarKind) → type_of v ≡ Scalar k → t
 rounded_of_holds (Number c) k e = ap (shape c.width) (kind_rounded c.width c.lanes) ∙ e
 rounded_of_holds (Texture r) k e = absurd (false≢true (handle_scalar r.ty k e))
 
-constant_of : (o : Option Literal) (t : TypeInner) → Of t (listed o (λ l. Fine (literal_type l)))
+constant_of : (o : Option Literal) (t : TypeInner) → Of t (listed o (λ l. Ok (literal_type l)))
     → type_of (Number (unwrap_or (option_map literal_components o) no_components)) ≡ t
 constant_of None t h = absurd h
 constant_of (Some (U32 x)) t h = h
@@ -186,7 +185,7 @@ element_of_holds : (env : Env) (v : Value) (i t : TypeInner) → Of t (element e
 element_of_holds env (Number c) i t h = absurd (no_number (λ u. element env u i) c t (λ k x. x) (λ s k x. x) h)
 element_of_holds env (Texture r) i t h = by r.ty h
   where
-    inner : (b : Bool) (o : Option TypeInner) → Of t (cond b (listed o (λ u. fine (texture_type u))) Lacking) → as_handle (unwrap_or o Sampler) ≡ t
+    inner : (b : Bool) (o : Option TypeInner) → Of t (cond b (listed o (λ u. fine (texture_type u))) (Err Lacking)) → as_handle (unwrap_or o Sampler) ≡ t
     inner true o h = listed_of o t h
     inner false o h = absurd h
 
@@ -372,7 +371,7 @@ module _ (env : Env) (answers : Answers) (typed : Typed answers) (ins : ℕ → 
   by_tag ImageLoad is fits h = (typed (load_request (value_at vs) e)).typed ∙ load_of (types_of vs) e operand t (made ImageLoad h)
 
 pub worth_typed : (env : Env) (answers : Answers) (typed : Typed answers) (ins : ℕ → Components) (vs : List Value) (e : Expression) (t : TypeInner)
-    → InputFits env ins e → seen env (types_of vs) e ≡ Fine t → type_of (worth env answers ins (value_at vs) e) ≡ t
+    → InputFits env ins e → seen env (types_of vs) e ≡ Ok t → type_of (worth env answers ins (value_at vs) e) ≡ t
 worth_typed env answers typed ins vs e t fits h =
     by_tag env answers typed ins vs e t e.tag refl fits
     (of_rule env _ e.result (rule_of env (types_of vs) e) t (is_of_holds (seen env (types_of vs) e) t h))

@@ -1,12 +1,12 @@
 -- The two passes, one expression at a time.
-use Rattle.std.proofs.Common.{◌≡◌, ℕ, suc, ◌+◌, ◌<◌, ◌≤◌, List, [], ◌∷◌, ◌++◌, length, get_or, take, drop, set, is_some, Some, None, Option, sym, refl, ap, ◌∙◌, arith, take-append-drop, drop_of_length-le, drop-cons}
+use Rattle.std.proofs.Common.{◌≡◌, ℕ, suc, ◌+◌, ◌<◌, ◌≤◌, List, [], ◌∷◌, ◌++◌, length, get_or, take, drop, set, is_some, Some, None, Ok, Err, Option, sym, refl, ap, ◌∙◌, arith, take-append-drop, drop_of_length-le, drop-cons}
 use Rattle.std.proofs.lemmas.Bool.{false≢true}
 use Rattle.std.proofs.lemmas.List.{take_more_set, drop-drop, drop-set-lt, length-set}
 use Rattle.records.specs.declared.expressions.Expression.{Expression}
 use Rattle.units.specs.declared.values.Value.{Value}
 use Rattle.run.specs.declared.passes.Halt.{Halt}
 use Rattle.run.specs.Worth.{Values}
-use Rattle.run.specs.Runs.{or_else, first_halt, worked, value_at}
+use Rattle.run.specs.Runs.{or_else, or_halt, first_halt, worked, value_at}
 
 more : (i : ℕ) → suc i ≡ i + 1
 more i = omega arith
@@ -17,18 +17,29 @@ first_at : {X : Type 0} (f : ℕ → X → Option Halt) (xs : List X) (i : ℕ) 
 unfolding first_halt
 first_at f xs i d l = ap (first_halt f i) (drop-cons xs i d l) ∙ ap (λ k. or_else (f i (get_or xs i d)) (first_halt f k (drop k xs))) (more i)
 
-pub first_on : {X : Type 0} (f : ℕ → X → Option Halt) (xs : List X) (i : ℕ) (d : X) (end : Option Halt) → i < length xs → f i (get_or xs i d) ≡ None
+-- A check at i, and one of the whole list: by what is left of it, which decides the whole.
+
+pub none_of : (o : Option Halt) → Ok tt ≡ or_halt o → o ≡ None
+none_of None is = refl
+none_of (Some h) is = cc
+
+pub some_of : (o : Option Halt) (h : Halt) → Err h ≡ or_halt o → o ≡ Some h
+some_of None h is = cc
+some_of (Some k) h is = cc
+
+pub first_on : {X : Type 0} (f : ℕ → X → Option Halt) (xs : List X) (i : ℕ) (d : X) (end : Option Halt) → i < length xs → Ok tt ≡ or_halt (f i (get_or xs i d))
     → first_halt f i (drop i xs) ≡ end → first_halt f (i + 1) (drop (i + 1) xs) ≡ end
-first_on f xs i d end l none is = sym (first_at f xs i d l ∙ ap (λ o. or_else o (first_halt f (i + 1) (drop (i + 1) xs))) none) ∙ is
+first_on f xs i d end l none is = sym (first_at f xs i d l ∙ ap (λ o. or_else o (first_halt f (i + 1) (drop (i + 1) xs))) (none_of _ none)) ∙ is
 
 pub first_here : {X : Type 0} (f : ℕ → X → Option Halt) (xs : List X) (i : ℕ) (d : X) (h : Halt) (end : Option Halt) → i < length xs
-    → f i (get_or xs i d) ≡ Some h → first_halt f i (drop i xs) ≡ end → Some h ≡ end
-first_here f xs i d h end l some is = sym (first_at f xs i d l ∙ ap (λ o. or_else o (first_halt f (i + 1) (drop (i + 1) xs))) some) ∙ is
+    → Err h ≡ or_halt (f i (get_or xs i d)) → first_halt f i (drop i xs) ≡ end → Err h ≡ or_halt end
+first_here f xs i d h end l some is =
+    ap or_halt (sym (first_at f xs i d l ∙ ap (λ o. or_else o (first_halt f (i + 1) (drop (i + 1) xs))) (some_of _ h some)) ∙ is)
 
 pub first_none : {X : Type 0} (f : ℕ → X → Option Halt) (xs : List X) (i : ℕ) (end : Option Halt) → length xs ≤ i
-    → first_halt f i (drop i xs) ≡ end → None ≡ end
+    → first_halt f i (drop i xs) ≡ end → Ok tt ≡ or_halt end
 unfolding first_halt
-first_none f xs i end l is = sym (ap (first_halt f i) (drop_of_length-le xs l)) ∙ is
+first_none f xs i end l is = ap or_halt (sym (ap (first_halt f i) (drop_of_length-le xs l)) ∙ is)
 
 -- where neither of two halts a run
 pub first_none_of : (o m : Option Halt) → or_else o m ≡ None → o ≡ None

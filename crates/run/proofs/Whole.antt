@@ -2,6 +2,7 @@
 use Rattle.std.proofs.Common.{◌≡◌, ℕ, zero, suc, ◌+◌, ◌≤◌, Bool, true, false, cond, ◌||◌, ltb, List, [], ◌∷◌, ◌++◌, length, get_or, take, drop, is_some, Some, None, Err, Option, unwrap_or, sym, refl, ap, ◌∙◌, arith}
 use Rattle.std.specs.List.{slice_get}
 use Rattle.std.proofs.lemmas.Bool.{false≢true, le-ltb}
+use Rattle.records.proofs.Equal.{types_decided}
 use Rattle.records.specs.declared.refusals.Error.TheVariants.{Full}
 use Rattle.records.specs.declared.expressions.Expression.{Expression}
 use Rattle.records.specs.declared.statements.Statement.{Statement}
@@ -25,7 +26,6 @@ use Rattle.run.specs.Stores.{halting_stores, stores, store_count}
 use Rattle.run.specs.Worth.{Values, worth, no_components}
 use Rattle.run.proofs.Agree.{InputsFit, typing_none, agree, types_all, length_worked}
 use Rattle.run.proofs.Places.{take_front}
-use Rattle.run.proofs.Sames.{same_true}
 use Rattle.run.proofs.Steps.{first_none_of, rest_none_of}
 
 -- where none halts, no record does
@@ -37,7 +37,7 @@ none_halts g i (y ∷ xs) (suc h) x none is = none_halts g (suc i) xs h x (rest_
 
 input_is : (ins : List Components) (k : ℕ) (t : TypeInner) → is_of (input_type ins k) t ≡ true → type_of (Number (get_or ins k no_components)) ≡ t
 input_is [] k t is = absurd (false≢true is)
-input_is (c ∷ ins) zero t is = same_true _ _ is
+input_is (c ∷ ins) zero t is = (types_decided _ _).0 is
 input_is (c ∷ ins) (suc k) t is = input_is ins k t is
 
 fits_of : (b : Bool) → cond b None (Some WrongInput) ≡ None → b ≡ true

@@ -1,5 +1,5 @@
 -- What each expression needs, and the type of what it comes to. Types only: no value is looked at.
-use Rattle.std.specs.Prelude.{ℕ, Bool, true, false, cond, not, ◌&&◌, ◌||◌, ltb, List, get_or, is_some, Some, None, Option, ◌==◌, nat_lt, slice_index_or}
+use Rattle.std.specs.Prelude.{ℕ, Bool, true, false, cond, not, ◌&&◌, ◌||◌, List, is_some, Some, None, Ok, Err, Option, Result, ◌==◌, nat_lt, slice_index_or}
 use Rattle.records.specs.declared.constants.Literal.{Literal}
 use Rattle.records.specs.declared.constants.Literal.TheVariants.{U32, I32, F32}
 use Rattle.records.specs.declared.handles.TypeHandle.{TypeHandle}
@@ -15,36 +15,42 @@ use Rattle.records.specs.declared.types.ImageClass.TheVariants.{Sampled, Depth, 
 use Rattle.records.specs.declared.types.TypeInner.{TypeInner}
 use Rattle.records.specs.declared.types.TypeInner.TheVariants.{Scalar, Vector, Image, Sampler, BindingArray}
 use Rattle.records.specs.declared.expressions.SwizzleComponent.{SwizzleComponent}
-use Rattle.records.specs.declared.expressions.SwizzleComponent.TheVariants.{X, Y, Z, W}
+use Rattle.records.specs.declared.expressions.SwizzleComponent.TheVariants.{X}
 use Rattle.records.specs.declared.expressions.SampleLevel.{SampleLevel}
 use Rattle.records.specs.declared.expressions.SampleLevel.TheVariants.{Auto, Zero, Exact, Bias, Gradient}
 use Rattle.records.specs.declared.expressions.ExpressionTag.{ExpressionTag}
 use Rattle.records.specs.declared.expressions.ExpressionTag.TheVariants.{GlobalVariable, FunctionArgument, Constant, Supplied, Access, AccessIndex, Compose, Splat, Swizzle, Divide, Round, As, ImageSample, ImageLoad}
 use Rattle.records.specs.declared.expressions.Expression.{Expression}
-use Rattle.run.specs.declared.rules.Sight.{Sight}
-use Rattle.run.specs.declared.rules.Sight.TheVariants.{Fine, Lacking, Outside}
+use Rattle.run.specs.declared.rules.Miss.{Miss}
+use Rattle.run.specs.declared.rules.Miss.TheVariants.{Lacking, Outside}
 use Rattle.run.specs.Envs.{Env}
-use Rattle.run.specs.Types.{size_of, same_type, on, when, scalar_kind, class_kind, part_type}
+use Rattle.records.specs.Numbers.{size_of, component_number}
+use Rattle.records.specs.Types.{same_type}
+use Rattle.run.specs.Types.{on, none_or, when, scalar_kind, class_kind, part_type}
 
 -- the types of the values worked out so far
 abbrev pub Known : Type 0
 Known = ℕ → Option TypeInner
 
+-- what the first pass sees of an expression: the type that it comes to, or why it has none
+abbrev pub Sight : Type 0
+Sight = Result TypeInner Miss
+
 -- what a number outside the used lists makes of an expression, and what a missing type does
 abbrev pub listed : {X : Type 0} → Option X → (X → Sight) → Sight
-listed None f = Outside
+listed None f = Err Outside
 listed (Some x) f = f x
 
 abbrev pub known : Option TypeInner → (TypeInner → Sight) → Sight
-known None f = Lacking
+known None f = Err Lacking
 known (Some t) f = f t
 
 abbrev pub fine : Option TypeInner → Sight
-fine None = Lacking
-fine (Some t) = Fine t
+fine None = Err Lacking
+fine (Some t) = Ok t
 
 abbrev pub test : Bool → TypeInner → Sight
-test b t = cond b (Fine t) Lacking
+test b t = cond b (Ok t) (Err Lacking)
 
 -- whether the type of an operand is this one
 abbrev pub is_of : Option TypeInner → TypeInner → Bool
@@ -81,40 +87,39 @@ resource env o = listed o (λ h. listed (env.types h.index) (λ t. fine (texture
 
 -- an element of a binding array; the index is an integer scalar
 abbrev pub element : Env → TypeInner → TypeInner → Sight
-element env (Scalar k) i = Lacking
-element env (Vector s k) i = Lacking
-element env (Image d a c) i = Lacking
-element env Sampler i = Lacking
+element env (Scalar k) i = Err Lacking
+element env (Vector s k) i = Err Lacking
+element env (Image d a c) i = Err Lacking
+element env Sampler i = Err Lacking
 element env (BindingArray b) i =
-    cond (is_int (Some i) Scalar) (listed (env.types b.index) (λ t. fine (texture_type t))) Lacking
+    cond (is_int (Some i) Scalar) (listed (env.types b.index) (λ t. fine (texture_type t))) (Err Lacking)
+
+-- whether the first of four, as many as the size says, pass a test
+abbrev pub of_first : {X : Type 0} → VectorSize → List X → X → (X → Bool) → Bool
+of_first size xs d passes =
+    let at : ℕ → Bool = λ i. passes (slice_index_or xs i d) in
+    (at 0 && at 1) && ((nat_lt (size_of size) 3 || at 2) && (nat_lt (size_of size) 4 || at 3))
+
+abbrev pub no_handle : ExpressionHandle
+no_handle = record { index = 0 }
 
 -- the types of the components that a Compose takes: as many scalars as the size says
 abbrev pub composes : Known → VectorSize → List ExpressionHandle → ScalarKind → Bool
-composes tys size cs k =
-    let at : ℕ → Bool = λ i. is_of (tys (get_or cs i (record { index = 0 })).index) (Scalar k) in
-    (at 0 && at 1) && ((nat_lt (size_of size) 3 || at 2) && (nat_lt (size_of size) 4 || at 3))
+composes tys size cs k = of_first size cs no_handle (λ h. is_of (tys h.index) (Scalar k))
 
 abbrev pub compose_type : Known → VectorSize → List ExpressionHandle → TypeInner → Sight
-compose_type tys size cs (Scalar k) = Lacking
+compose_type tys size cs (Scalar k) = Err Lacking
 compose_type tys size cs (Vector s k) = test (size_of s == size_of size && composes tys size cs k) (Vector s k)
-compose_type tys size cs (Image d a c) = Lacking
-compose_type tys size cs Sampler = Lacking
-compose_type tys size cs (BindingArray b) = Lacking
+compose_type tys size cs (Image d a c) = Err Lacking
+compose_type tys size cs Sampler = Err Lacking
+compose_type tys size cs (BindingArray b) = Err Lacking
 
 abbrev pub splat_type : VectorSize → TypeInner → Option TypeInner
 splat_type size t = on (scalar_kind t) (λ k. Some (Vector size k))
 
-abbrev pub component_number : SwizzleComponent → ℕ
-component_number X = 0
-component_number Y = 1
-component_number Z = 2
-component_number W = 3
-
 -- whether a vector of n components has those that the first `size` of a pattern name
 abbrev pub has_pattern : ℕ → VectorSize → List SwizzleComponent → Bool
-has_pattern n size p =
-    let at : ℕ → Bool = λ i. ltb (component_number (slice_index_or p i X)) n in
-    (at 0 && at 1) && ((nat_lt (size_of size) 3 || at 2) && (nat_lt (size_of size) 4 || at 3))
+has_pattern n size p = of_first size p X (λ c. nat_lt (component_number c) n)
 
 abbrev pub swizzle_type : VectorSize → List SwizzleComponent → TypeInner → Option TypeInner
 swizzle_type size p (Scalar k) = None
@@ -151,16 +156,13 @@ layer_fits tys arrayed None = not arrayed
 layer_fits tys arrayed (Some h) = arrayed && is_of (tys h.index) (Scalar Sint)
 
 abbrev pub offset_fits : Known → ImageDimension → Option ExpressionHandle → Bool
-offset_fits tys d None = true
-offset_fits tys d (Some h) = is_int (tys h.index) (place_type d)
+offset_fits tys d = none_or (λ h. is_int (tys h.index) (place_type d))
 
 abbrev pub float_fits : Known → Option ExpressionHandle → Bool
-float_fits tys None = true
-float_fits tys (Some h) = is_of (tys h.index) (Scalar Float)
+float_fits tys = none_or (λ h. is_of (tys h.index) (Scalar Float))
 
 abbrev pub integer_fits : Known → Option ExpressionHandle → Bool
-integer_fits tys None = true
-integer_fits tys (Some h) = is_int (tys h.index) Scalar
+integer_fits tys = none_or (λ h. is_int (tys h.index) Scalar)
 
 abbrev pub level_fits : Known → ImageDimension → SampleLevel → Bool
 level_fits tys d Auto = true
@@ -179,13 +181,15 @@ sample_fits tys e d arrayed =
 abbrev pub answered_by : Bool → ImageClass → TypeInner
 answered_by one c = cond one (Scalar Float) (Vector Quad (class_kind c))
 
+abbrev pub sampled_by : Expression → ImageClass → TypeInner
+sampled_by e c = answered_by ((is_depth c || is_some e.image.depth_ref) && not (is_some e.image.gather)) c
+
 abbrev pub sample_type : Known → Expression → TypeInner → Sight
-sample_type tys e (Scalar k) = Lacking
-sample_type tys e (Vector s k) = Lacking
-sample_type tys e (Image d a c) =
-    test (sample_fits tys e d a) (answered_by ((is_depth c || is_some e.image.depth_ref) && not (is_some e.image.gather)) c)
-sample_type tys e Sampler = Lacking
-sample_type tys e (BindingArray b) = Lacking
+sample_type tys e (Scalar k) = Err Lacking
+sample_type tys e (Vector s k) = Err Lacking
+sample_type tys e (Image d a c) = test (sample_fits tys e d a) (sampled_by e c)
+sample_type tys e Sampler = Err Lacking
+sample_type tys e (BindingArray b) = Err Lacking
 
 abbrev pub load_fits : Known → Expression → ImageDimension → Bool → Bool
 load_fits tys e d arrayed =
@@ -193,11 +197,11 @@ load_fits tys e d arrayed =
     && (integer_fits tys e.image.sample && integer_fits tys e.image.lod))
 
 abbrev pub load_type : Known → Expression → TypeInner → Sight
-load_type tys e (Scalar k) = Lacking
-load_type tys e (Vector s k) = Lacking
+load_type tys e (Scalar k) = Err Lacking
+load_type tys e (Vector s k) = Err Lacking
 load_type tys e (Image d a c) = test (load_fits tys e d a) (answered_by (is_depth c) c)
-load_type tys e Sampler = Lacking
-load_type tys e (BindingArray b) = Lacking
+load_type tys e Sampler = Err Lacking
+load_type tys e (BindingArray b) = Err Lacking
 
 -- the numbers that a record names, inside the used lists
 
@@ -205,8 +209,7 @@ abbrev pub inside_one : Env → ExpressionHandle → Bool
 inside_one env h = nat_lt h.index env.count
 
 abbrev pub inside_option : Env → Option ExpressionHandle → Bool
-inside_option env None = true
-inside_option env (Some h) = inside_one env h
+inside_option env = none_or (inside_one env)
 
 abbrev pub inside_level : Env → SampleLevel → Bool
 inside_level env Auto = true
@@ -216,9 +219,7 @@ inside_level env (Bias h) = inside_one env h
 inside_level env (Gradient x y) = inside_one env x && inside_one env y
 
 abbrev pub inside_components : Env → VectorSize → List ExpressionHandle → Bool
-inside_components env size cs =
-    let at : ℕ → Bool = λ i. inside_one env (slice_index_or cs i (record { index = 0 })) in
-    (at 0 && at 1) && ((nat_lt (size_of size) 3 || at 2) && (nat_lt (size_of size) 4 || at 3))
+inside_components env size cs = of_first size cs no_handle (inside_one env)
 
 abbrev pub inside_image : Env → Expression → Bool
 inside_image env e =
@@ -243,22 +244,21 @@ inside_tag env e ImageSample = inside_one env e.other && inside_image env e
 inside_tag env e ImageLoad = inside_image env e
 
 abbrev pub inside_result : Env → Option TypeHandle → Bool
-inside_result env None = true
-inside_result env (Some h) = is_some (env.types h.index)
+inside_result env = none_or (λ h. is_some (env.types h.index))
 
 -- the type of what a record comes to, were all its numbers inside: first of one that is made of an expression of a type
 abbrev pub made_of : Env → Known → Expression → TypeInner → ExpressionTag → Sight
-made_of env tys e base GlobalVariable = Lacking
-made_of env tys e base FunctionArgument = Lacking
-made_of env tys e base Constant = Lacking
-made_of env tys e base Supplied = Lacking
+made_of env tys e base GlobalVariable = Err Lacking
+made_of env tys e base FunctionArgument = Err Lacking
+made_of env tys e base Constant = Err Lacking
+made_of env tys e base Supplied = Err Lacking
 made_of env tys e base Access = known (tys e.other.index) (element env base)
 made_of env tys e base AccessIndex = fine (part_type e.index base)
-made_of env tys e base Compose = Lacking
+made_of env tys e base Compose = Err Lacking
 made_of env tys e base Splat = fine (splat_type e.size base)
 made_of env tys e base Swizzle = fine (swizzle_type e.size e.pattern base)
-made_of env tys e base Divide = Lacking
-made_of env tys e base Round = Lacking
+made_of env tys e base Divide = Err Lacking
+made_of env tys e base Round = Err Lacking
 made_of env tys e base As = fine (cast_type base)
 made_of env tys e base ImageSample = sample_type tys e base
 made_of env tys e base ImageLoad = load_type tys e base
@@ -267,7 +267,7 @@ made_of env tys e base ImageLoad = load_type tys e base
 abbrev pub leaf_rule : Env → Known → Expression → ExpressionTag → Option Sight
 leaf_rule env tys e GlobalVariable = Some (resource env (env.variables e.variable.index))
 leaf_rule env tys e FunctionArgument = Some (resource env (env.arguments e.argument.index))
-leaf_rule env tys e Constant = Some (listed (env.constants e.constant.index) (λ l. Fine (literal_type l)))
+leaf_rule env tys e Constant = Some (listed (env.constants e.constant.index) (λ l. Ok (literal_type l)))
 leaf_rule env tys e Supplied = Some (listed (env.types e.ty.index) (λ t. fine (number_type t)))
 leaf_rule env tys e Access = None
 leaf_rule env tys e AccessIndex = None
@@ -289,15 +289,14 @@ rule_of env tys e = otherwise (leaf_rule env tys e e.tag) (known (tys e.base.ind
 
 -- and of the type that the record states, if it states one
 abbrev pub result_fits : Env → Option TypeHandle → TypeInner → Sight
-result_fits env None t = Fine t
+result_fits env None t = Ok t
 result_fits env (Some h) t = listed (env.types h.index) (λ r. test (same_type t r) t)
 
 abbrev pub resulting : Env → Option TypeHandle → Sight → Sight
-resulting env o (Fine t) = result_fits env o t
-resulting env o Lacking = Lacking
-resulting env o Outside = Outside
+resulting env o (Ok t) = result_fits env o t
+resulting env o (Err miss) = Err miss
 
 -- What is seen of a record: a number outside comes before anything that it lacks.
 abbrev pub seen : Env → Known → Expression → Sight
 seen env tys e =
-    cond (inside_result env e.result && inside_tag env e e.tag) (resulting env e.result (rule_of env tys e)) Outside
+    cond (inside_result env e.result && inside_tag env e e.tag) (resulting env e.result (rule_of env tys e)) (Err Outside)

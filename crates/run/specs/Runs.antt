@@ -1,12 +1,12 @@
 -- The run over a list of expressions.
-use Rattle.std.specs.Prelude.{ℕ, suc, List, [], ◌∷◌, ◌++◌, length, Some, None, Option, slice_index_or}
+use Rattle.std.specs.Prelude.{ℕ, suc, List, [], ◌∷◌, ◌++◌, length, Some, None, Ok, Err, Option, Result, slice_index_or}
 use Rattle.records.specs.declared.expressions.Expression.{Expression}
-use Rattle.run.specs.declared.rules.Sight.{Sight}
-use Rattle.run.specs.declared.rules.Sight.TheVariants as sights
+use Rattle.run.specs.declared.rules.Miss.{Miss}
+use Rattle.run.specs.declared.rules.Miss.TheVariants as misses
 use Rattle.run.specs.declared.passes.Halt.{Halt}
 use Rattle.run.specs.declared.passes.Halt.TheVariants.{Stuck, Outside}
 use Rattle.run.specs.Envs.{Env}
-use Rattle.run.specs.Rules.{Known, seen}
+use Rattle.run.specs.Rules.{Sight, Known, seen}
 use Rattle.std.specs.List.{slice_get}
 use Rattle.std.specs.Option.{option_map}
 use Rattle.units.specs.Values.{type_of}
@@ -30,11 +30,20 @@ unfoldable pub first_halt : {X : Type 0} → (ℕ → X → Option Halt) → ℕ
 first_halt f i [] = None
 first_halt f i (x ∷ xs) = or_else (f i x) (first_halt f (suc i) xs)
 
+-- a check, by what may halt a run there
+abbrev pub or_halt : Option Halt → Result (Unit {0}) Halt
+or_halt None = Ok tt
+or_halt (Some h) = Err h
+
+-- what a miss at expression i halts a run by
+abbrev pub halt_by : Miss → ℕ → Halt
+halt_by misses.Lacking i = Stuck i
+halt_by misses.Outside i = Outside
+
 -- an expression that is fine lets the run go on
 abbrev pub halt_of : Sight → ℕ → Option Halt
-halt_of (sights.Fine t) i = None
-halt_of sights.Lacking i = Some (Stuck i)
-halt_of sights.Outside i = Some Outside
+halt_of (Ok t) i = None
+halt_of (Err miss) i = Some (halt_by miss i)
 
 -- where a run over expressions i, i + 1 and so on halts, if it does; `tys i` is what is known before expression i
 abbrev pub halting : Env → (ℕ → Known) → ℕ → List Expression → Option Halt
@@ -55,9 +64,8 @@ pub data Progress : Type 0 where
   Halted : Halt → Progress
 
 abbrev pub proceeds : Sight → ℕ → Progress → Progress
-proceeds (sights.Fine t) i rest = rest
-proceeds sights.Lacking i rest = Halted (Stuck i)
-proceeds sights.Outside i rest = Halted Outside
+proceeds (Ok t) i rest = rest
+proceeds (Err miss) i rest = Halted (halt_by miss i)
 
 -- the run: each expression is looked at by the types of the values before it, and then worked out from them
 unfoldable pub run_over : Env → (Values → Expression → Value) → List Value → List Expression → Progress

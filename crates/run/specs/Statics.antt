@@ -1,5 +1,5 @@
 -- The type of an expression from the records alone, along one path of bases: what the first pass goes by.
-use Rattle.std.specs.Prelude.{ℕ, zero, suc, cond, not, ◌&&◌, ◌||◌, List, is_some, Some, None, Option, nat_lt}
+use Rattle.std.specs.Prelude.{ℕ, zero, suc, cond, List, Some, None, Option, nat_lt}
 use Rattle.std.specs.List.{slice_get}
 use Rattle.records.specs.declared.handles.TypeHandle.{TypeHandle}
 use Rattle.records.specs.declared.types.ScalarKind.TheVariants.{Sint, Float}
@@ -8,9 +8,10 @@ use Rattle.records.specs.declared.types.TypeInner.TheVariants.{Scalar, Vector, I
 use Rattle.records.specs.declared.expressions.ExpressionTag.{ExpressionTag}
 use Rattle.records.specs.declared.expressions.ExpressionTag.TheVariants.{GlobalVariable, FunctionArgument, Constant, Supplied, Access, AccessIndex, Compose, Splat, Swizzle, Divide, Round, As, ImageSample, ImageLoad}
 use Rattle.records.specs.declared.expressions.Expression.{Expression}
-use Rattle.run.specs.Envs.{Env}
+use Rattle.run.specs.declared.before.Before.{Before}
+use Rattle.run.specs.Envs.{Env, env_of}
 use Rattle.run.specs.Types.{on, kind_in}
-use Rattle.run.specs.Rules.{Known, literal_type, is_depth, answered_by}
+use Rattle.run.specs.Rules.{Known, literal_type, is_depth, answered_by, sampled_by}
 
 abbrev pub type_by : Env → Option TypeHandle → Option TypeInner
 type_by env o = on o (λ h. env.types h.index)
@@ -25,7 +26,7 @@ element_type env (BindingArray b) = env.types b.index
 abbrev pub sampled_type : Expression → TypeInner → Option TypeInner
 sampled_type e (Scalar k) = None
 sampled_type e (Vector s k) = None
-sampled_type e (Image d a c) = Some (answered_by ((is_depth c || is_some e.image.depth_ref) && not (is_some e.image.gather)) c)
+sampled_type e (Image d a c) = Some (sampled_by e c)
 sampled_type e Sampler = None
 sampled_type e (BindingArray b) = None
 
@@ -71,3 +72,6 @@ static env es h = static_in (suc h) env es h
 -- what the first pass knows before expression i
 abbrev pub known_before : Env → List Expression → ℕ → Known
 known_before env es i h = cond (nat_lt h i) (static env es h) None
+
+abbrev pub known_by : Before → Known
+known_by b = known_before (env_of b.lists) b.lists.expressions.now b.i

@@ -6,17 +6,15 @@ use Rattle.records.specs.declared.types.TypeInner.{TypeInner}
 use Rattle.records.specs.declared.types.TypeInner.TheVariants.{Scalar, Vector, Image, Sampler, BindingArray}
 use Rattle.records.specs.declared.statements.Statement.{Statement}
 use Rattle.records.specs.declared.statements.Statement.TheVariants.{Emit, ImageStore}
-use Rattle.units.specs.declared.values.Value.{Value}
 use Rattle.units.specs.declared.requests.Sort.TheVariants.{Store}
-use Rattle.units.specs.declared.requests.Level.TheVariants.{Unstated}
 use Rattle.units.specs.declared.requests.Request.{Request}
 use Rattle.run.specs.declared.passes.Halt.{Halt}
 use Rattle.run.specs.declared.passes.Halt.TheVariants.{StuckAtStore, Outside}
 use Rattle.run.specs.Envs.{Env}
-use Rattle.run.specs.Types.{kind_in, class_kind}
+use Rattle.run.specs.Types.{class_kind}
 use Rattle.run.specs.Rules.{Known, is_of, is_int, place_type, layer_fits, inside_one, inside_option}
 use Rattle.run.specs.Runs.{first_halt}
-use Rattle.run.specs.Worth.{Values, components_of, resource_of, texture_type_of, optional, dimension_of, depth_of}
+use Rattle.run.specs.Worth.{Values, components_of, image_request}
 
 -- a place of integers, a layer where the image is arrayed, four components of the image's kind
 abbrev pub store_fits : Known → Option TypeInner → ExpressionHandle → Option ExpressionHandle → ExpressionHandle → Bool
@@ -42,25 +40,7 @@ abbrev pub halting_stores : Env → Known → ℕ → List Statement → Option 
 halting_stores env tys = first_halt (store_halt env tys)
 
 abbrev pub store_request : Values → ExpressionHandle → ExpressionHandle → Option ExpressionHandle → ExpressionHandle → Request
-store_request at i c l v =
-    let image : Value = at i.index in
-    let t : TypeInner = texture_type_of image in
-    record {
-      texture = resource_of image;
-      sampler = None;
-      sort = Store;
-      kind = kind_in t;
-      dim = dimension_of t;
-      depth = depth_of t;
-      coordinate = components_of (at c.index);
-      layer = optional at l;
-      gather = None;
-      sample = None;
-      offset = None;
-      level = Unstated;
-      reference = None;
-      value = Some (components_of (at v.index));
-    }
+store_request at i c l v = record (image_request at Store i c l) { value = Some (components_of (at v.index)) }
 
 -- the request of one statement, if it makes one
 abbrev pub store_request_of : Values → Statement → Option Request

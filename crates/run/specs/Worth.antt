@@ -4,8 +4,6 @@ use Rattle.std.specs.Option.{option_map, unwrap_or}
 use Rattle.records.specs.declared.constants.Literal.{Literal}
 use Rattle.records.specs.declared.constants.Literal.TheVariants.{U32, I32, F32}
 use Rattle.records.specs.declared.handles.ExpressionHandle.{ExpressionHandle}
-use Rattle.records.specs.declared.types.VectorSize.{VectorSize}
-use Rattle.records.specs.declared.types.VectorSize.TheVariants.{Bi, Tri, Quad}
 use Rattle.records.specs.declared.types.ImageDimension.{ImageDimension}
 use Rattle.records.specs.declared.types.ImageDimension.TheVariants.{D1}
 use Rattle.records.specs.declared.types.TypeInner.{TypeInner}
@@ -17,8 +15,7 @@ use Rattle.records.specs.declared.expressions.SampleLevel.TheVariants as samplin
 use Rattle.records.specs.declared.expressions.ExpressionTag.{ExpressionTag}
 use Rattle.records.specs.declared.expressions.ExpressionTag.TheVariants.{GlobalVariable, FunctionArgument, Constant, Supplied, Access, AccessIndex, Compose, Splat, Swizzle, Divide, Round, As, ImageSample, ImageLoad}
 use Rattle.records.specs.declared.expressions.Expression.{Expression}
-use Rattle.units.specs.declared.values.Width.{Width}
-use Rattle.units.specs.declared.values.Width.TheVariants.{One, Two, Three, Four}
+use Rattle.units.specs.declared.values.Width.TheVariants.{One}
 use Rattle.units.specs.declared.values.Lanes.{Lanes}
 use Rattle.units.specs.declared.values.Lanes.TheVariants as lanes
 use Rattle.units.specs.declared.values.Components.{Components}
@@ -34,20 +31,17 @@ use Rattle.units.specs.declared.requests.Level.TheVariants.{Unstated, Auto, Zero
 use Rattle.units.specs.declared.requests.Request.{Request}
 use Rattle.units.specs.Arithmetic.{zero_float, sint_to_bits}
 use Rattle.units.specs.Requests.{Answers, clean}
+use Rattle.units.specs.Values.{width_of}
 use Rattle.units.specs.Operations.{chosen, composed, divided, rounded, casted}
 use Rattle.run.specs.Envs.{Env}
 use Rattle.run.specs.Types.{kind_in}
-use Rattle.run.specs.Rules.{is_depth, component_number}
+use Rattle.records.specs.Numbers.{component_number}
+use Rattle.run.specs.Rules.{is_depth}
 use Rattle.run.specs.Statics.{type_by, element_type}
 
 -- the values worked out so far
 abbrev pub Values : Type 0
 Values = ℕ → Value
-
-abbrev pub width_of : VectorSize → Width
-width_of Bi = Two
-width_of Tri = Three
-width_of Quad = Four
 
 abbrev pub no_components : Components
 no_components = record { width = One; lanes = lanes.Float (zero_float ∷ zero_float ∷ zero_float ∷ zero_float ∷ []) }
@@ -138,48 +132,43 @@ abbrev pub sort_of : Option SwizzleComponent → Sort
 sort_of None = Sample
 sort_of (Some c) = Gather
 
--- of a sample or gather
-abbrev pub sample_request : Values → Expression → Request
-sample_request at e =
-    let image : Value = at e.base.index in
-    let t : TypeInner = texture_type_of image in
-    record {
-      texture = resource_of image;
-      sampler = Some (resource_of (at e.other.index));
-      sort = sort_of e.image.gather;
-      kind = kind_in t;
-      dim = dimension_of t;
-      depth = depth_of t;
-      coordinate = components_of (at e.image.coordinate.index);
-      layer = optional at e.image.array_index;
-      gather = e.image.gather;
-      sample = None;
-      offset = optional at e.image.offset;
-      level = level_of at e.image.level;
-      reference = optional at e.image.depth_ref;
-      value = None;
-    }
-
-abbrev pub load_request : Values → Expression → Request
-load_request at e =
-    let image : Value = at e.base.index in
+-- what every request of an image has; the other parts are missing
+abbrev pub image_request : Values → Sort → ExpressionHandle → ExpressionHandle → Option ExpressionHandle → Request
+image_request at sort i c l =
+    let image : Value = at i.index in
     let t : TypeInner = texture_type_of image in
     record {
       texture = resource_of image;
       sampler = None;
-      sort = Load;
+      sort = sort;
       kind = kind_in t;
       dim = dimension_of t;
       depth = depth_of t;
-      coordinate = components_of (at e.image.coordinate.index);
-      layer = optional at e.image.array_index;
+      coordinate = components_of (at c.index);
+      layer = optional at l;
       gather = None;
-      sample = optional at e.image.sample;
+      sample = None;
       offset = None;
-      level = load_level (optional at e.image.lod);
+      level = Unstated;
       reference = None;
       value = None;
     }
+
+-- of a sample or gather
+abbrev pub sample_request : Values → Expression → Request
+sample_request at e = record (image_request at (sort_of e.image.gather) e.base e.image.coordinate e.image.array_index) {
+  sampler = Some (resource_of (at e.other.index));
+  gather = e.image.gather;
+  offset = optional at e.image.offset;
+  level = level_of at e.image.level;
+  reference = optional at e.image.depth_ref;
+}
+
+abbrev pub load_request : Values → Expression → Request
+load_request at e = record (image_request at Load e.base e.image.coordinate e.image.array_index) {
+  sample = optional at e.image.sample;
+  level = load_level (optional at e.image.lod);
+}
 
 -- values
 

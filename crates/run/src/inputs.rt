@@ -1,66 +1,44 @@
 // Inputs: whether each Supplied record has one of its type.
 ghost use Rattle.std.specs.Prelude.{◌≡◌};
 ghost use Rattle.run.specs.Envs.{env_of};
-ghost use Rattle.units.specs.Values.{type_of};
-ghost use Rattle.units.specs.declared.values.Value.TheVariants.{Number};
-ghost use Rattle.run.specs.Inputs.{input_type, input_halt_by, input_halt, halting_inputs};
+ghost use Rattle.run.specs.Inputs.{input_type, input_halt, halting_inputs};
+ghost use Rattle.run.specs.Runs.{or_halt};
 
 use crate::lists::Lists;
 use crate::passes::Halt;
 use crate::rules::is_of;
 use records::{Expression, ExpressionTag, TypeInner};
-use units::{Components, shape_of};
-
-fn components_type(components: Components) -> TypeInner
-    ensures { result ≡ type_of (Number components) }
-{
-    shape_of(components.width, components.lanes.kind())
-}
+use units::{Components, Value};
 
 fn input_type(inputs: &[Components], number: u32) -> Option<TypeInner>
     ensures { result ≡ input_type inputs.now number }
 {
-    let k = number as usize;
-    if k < inputs.len() {
-        Some(components_type(inputs[k]))
-    } else {
-        None
-    }
-}
-
-fn input_halt_by(ty: Option<TypeInner>, input: Option<TypeInner>) -> Option<Halt>
-    ensures { result ≡ input_halt_by ty input }
-{
-    let Some(ty) = ty else {
-        return Some(Halt::Outside);
-    };
-    if is_of(input, ty) {
-        None
-    } else {
-        Some(Halt::WrongInput)
-    }
-}
-
-fn input_halt(lists: Lists<'_>, inputs: &[Components], e: Expression) -> Option<Halt>
-    ensures { result ≡ input_halt (env_of lists.entry) inputs.now e e.tag }
-{
-    match e.tag {
-        ExpressionTag::Supplied => input_halt_by(lists.type_at(e.ty), input_type(inputs, e.index)),
-        _ => None,
-    }
+    let input = *inputs.get(number as usize)?;
+    Some(Value::Number(input).ty())
 }
 
 impl Lists<'_> {
-    // The first record whose input is missing or of another type.
-    pub fn first_input_halt(self, inputs: &[Components]) -> Option<Halt>
-        ensures { result ≡ halting_inputs (env_of self.entry) inputs.now self.entry.expressions.now }
+    fn check_input(self, inputs: &[Components], e: Expression) -> Result<(), Halt>
+        ensures { result ≡ or_halt (input_halt (env_of self.entry) inputs.now e e.tag) }
     {
-        for i in 0..self.expressions.len() {
-            match input_halt(self, inputs, self.expressions[i]) {
-                Some(halt) => return Some(halt),
-                None => {}
-            }
+        let ExpressionTag::Supplied = e.tag else {
+            return Ok(());
+        };
+        let ty = self.type_at(e.ty).ok_or(Halt::Outside)?;
+        if is_of(input_type(inputs, e.index), ty) {
+            Ok(())
+        } else {
+            Err(Halt::WrongInput)
         }
-        None
+    }
+
+    // The first record whose input is missing or of another type decides.
+    pub fn check_inputs(self, inputs: &[Components]) -> Result<(), Halt>
+        ensures { result ≡ or_halt (halting_inputs (env_of self.entry) inputs.now self.entry.expressions.now) }
+    {
+        for e in self.expressions {
+            self.check_input(inputs, *e)?;
+        }
+        Ok(())
     }
 }

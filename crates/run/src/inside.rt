@@ -4,7 +4,7 @@ ghost use Rattle.run.specs.Envs.{env_of};
 ghost use Rattle.run.specs.Rules.{inside_one, inside_option, inside_level, inside_components, inside_image, inside_tag, inside_result};
 
 use crate::lists::Lists;
-use crate::types::size_of;
+use crate::rules::of_first;
 use records::{Expression, ExpressionHandle, ExpressionTag, SampleLevel, TypeHandle, VectorSize};
 
 impl Lists<'_> {
@@ -28,8 +28,7 @@ impl Lists<'_> {
     {
         match level {
             SampleLevel::Auto | SampleLevel::Zero => true,
-            SampleLevel::Exact(level) => self.has(level),
-            SampleLevel::Bias(level) => self.has(level),
+            SampleLevel::Exact(level) | SampleLevel::Bias(level) => self.has(level),
             SampleLevel::Gradient { x, y } => self.has(x) && self.has(y),
         }
     }
@@ -37,10 +36,7 @@ impl Lists<'_> {
     fn has_components(self, size: VectorSize, components: [ExpressionHandle; 4]) -> bool
         ensures { result ≡ inside_components (env_of self.entry) size components }
     {
-        let first = self.has(components[0]) && self.has(components[1]);
-        let third = size_of(size) < 3 || self.has(components[2]);
-        let fourth = size_of(size) < 4 || self.has(components[3]);
-        first && (third && fourth)
+        of_first(size, components, |component| self.has(component))
     }
 
     fn has_image(self, e: Expression) -> bool
@@ -57,11 +53,11 @@ impl Lists<'_> {
             && self.has_option(image.lod)
     }
 
-    pub fn has_result(self, res: Option<TypeHandle>) -> bool
-        ensures { result ≡ inside_result (env_of self.entry) res }
+    pub fn has_result(self, handle: Option<TypeHandle>) -> bool
+        ensures { result ≡ inside_result (env_of self.entry) handle }
     {
-        match res {
-            Some(res) => self.type_at(res).is_some(),
+        match handle {
+            Some(handle) => self.type_at(handle).is_some(),
             None => true,
         }
     }

@@ -1,6 +1,7 @@
 // The run: works out every expression of the lists, asks a texture unit, and lists the stores.
 #![tactic(auto)]
 
+mod before;
 mod fits;
 mod inputs;
 mod inside;
@@ -20,10 +21,8 @@ pub use laws::laws_stand;
 pub use lists::Lists;
 pub use passes::Halt;
 pub use requests::request_of;
-pub use rules::{Sight, is_integer_place, is_integer_scalar, place_type};
+pub use rules::{is_integer_place, is_integer_scalar, place_type};
 pub use runs::{Outcome, run};
 pub use statics::{is_depth, literal_type};
 pub use stores::store_request_of;
-pub use types::{
-    class_kind, count_in, is_float, is_integer, kind_in, same_kind, same_type, size_of,
-};
+pub use types::{class_kind, count_in, is_float, is_integer, kind_in};

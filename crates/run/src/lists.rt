@@ -21,44 +21,27 @@ impl Lists<'_> {
     pub fn type_at(self, handle: TypeHandle) -> Option<TypeInner>
         ensures { result ≡ (env_of self.entry).types handle.index }
     {
-        let i = handle.index as usize;
-        if i < self.types.len() {
-            Some(self.types[i])
-        } else {
-            None
-        }
+        self.types.get(handle.index as usize).copied()
     }
 
     pub fn variable_at(self, handle: GlobalVariableHandle) -> Option<TypeHandle>
         ensures { result ≡ (env_of self.entry).variables handle.index }
     {
-        let i = handle.index as usize;
-        if i < self.variables.len() {
-            Some(self.variables[i].ty)
-        } else {
-            None
-        }
+        let variable = self.variables.get(handle.index as usize)?;
+        Some(variable.ty)
     }
 
     pub fn argument_at(self, handle: FunctionArgumentHandle) -> Option<TypeHandle>
         ensures { result ≡ (env_of self.entry).arguments handle.index }
     {
-        let i = handle.index as usize;
-        if i < self.arguments.len() {
-            Some(self.arguments[i].ty)
-        } else {
-            None
-        }
+        let argument = self.arguments.get(handle.index as usize)?;
+        Some(argument.ty)
     }
 
     pub fn constant_at(self, handle: ConstantHandle) -> Option<Literal>
         ensures { result ≡ (env_of self.entry).constants handle.index }
     {
-        let i = handle.index as usize;
-        if i < self.constants.len() {
-            Some(self.constants[i].value)
-        } else {
-            None
-        }
+        let constant = self.constants.get(handle.index as usize)?;
+        Some(constant.value)
     }
 }

@@ -1,12 +1,13 @@
 // The two passes over the expressions: the first finds where a run would halt, the second works out the values.
 ghost use Rattle.std.specs.Prelude.{◌≡◌, ◌≤◌, [], ◌++◌, length, drop};
 ghost use Rattle.run.specs.Envs.{env_of};
-ghost use Rattle.run.specs.Runs.{halting, worked, input_at};
+ghost use Rattle.run.specs.Runs.{halt_by, or_halt, halting, worked, input_at};
 ghost use Rattle.run.specs.Statics.{known_before};
 ghost use Rattle.run.specs.Worth.{worth};
 
+use crate::before::Before;
 use crate::lists::Lists;
-use crate::rules::Sight;
+use crate::rules::Miss;
 use crate::worth::work_out;
 use units::{Components, TextureUnit, Value};
 
@@ -23,19 +24,29 @@ pub enum Halt {
     WrongInput,
 }
 
+impl Miss {
+    // What it halts a run by, at expression i.
+    fn halt(self, i: usize) -> Halt
+        ensures { result ≡ halt_by self i }
+    {
+        match self {
+            Miss::Lacking => Halt::Stuck(i),
+            Miss::Outside => Halt::Outside,
+        }
+    }
+}
+
 impl Lists<'_> {
     // The first pass: the first expression that has no type decides. Nothing is written.
-    pub fn first_halt(self) -> Option<Halt>
-        ensures { result ≡ halting (env_of self.entry) (known_before (env_of self.entry) self.entry.expressions.now) 0 self.entry.expressions.now }
+    pub fn check_expressions(self) -> Result<(), Halt>
+        ensures { result ≡ or_halt (halting (env_of self.entry) (known_before (env_of self.entry) self.entry.expressions.now) 0 self.entry.expressions.now) }
     {
-        for i in 0..self.expressions.len() {
-            match self.see(i, self.expressions[i]) {
-                Sight::Fine(_) => {}
-                Sight::Lacking => return Some(Halt::Stuck(i)),
-                Sight::Outside => return Some(Halt::Outside),
+        for (i, e) in self.expressions.iter().enumerate() {
+            if let Err(miss) = (Before { lists: self, i }).see(*e) {
+                return Err(miss.halt(i));
             }
         }
-        None
+        Ok(())
     }
 }
 
@@ -50,6 +61,6 @@ pub(crate) fn fill_values<U: TextureUnit>(
     ensures { values.new ≡ worked (worth (env_of lists.entry) (U.answers unit.now) (input_at inputs.now)) [] lists.entry.expressions.now ++ drop (length lists.entry.expressions.now) values.old }
 {
     for i in 0..lists.expressions.len() {
-        values[i] = work_out(lists, unit, inputs, values, i, lists.expressions[i]);
+        values[i] = work_out(lists, unit, inputs, &values[..i], lists.expressions[i]);
     }
 }

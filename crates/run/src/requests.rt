@@ -1,8 +1,8 @@
 // The one request that a sample, gather or load makes of the values worked out so far.
-ghost use Rattle.std.specs.Prelude.{◌≡◌, take};
+ghost use Rattle.std.specs.Prelude.{◌≡◌};
 ghost use Rattle.run.specs.Asked.{request_of};
 ghost use Rattle.run.specs.Runs.{value_at};
-ghost use Rattle.run.specs.Worth.{components_of, resource_of, texture_type_of, no_value, optional, level_of, load_level, dimension_of, depth_of, sort_of, sample_request, load_request};
+ghost use Rattle.run.specs.Worth.{components_of, resource_of, texture_type_of, optional, level_of, load_level, dimension_of, depth_of, sort_of, image_request, sample_request, load_request};
 
 use crate::statics::is_depth;
 use crate::types::kind_in;
@@ -24,18 +24,13 @@ const NO_RESOURCE: Resource = Resource {
 };
 
 // The value of an expression that is worked out; one that is not is not asked for.
-pub fn value_at(values: &[Value], i: usize, handle: ExpressionHandle) -> Value
-    ensures { result ≡ value_at (take i values.now) handle.index }
+pub fn value_at(values: &[Value], handle: ExpressionHandle) -> Value
+    ensures { result ≡ value_at values.now handle.index }
 {
-    let h = handle.index as usize;
-    let missing = Value::Number(NO_COMPONENTS);
-    if h >= i {
-        missing
-    } else if h < values.len() {
-        values[h]
-    } else {
-        missing
-    }
+    values
+        .get(handle.index as usize)
+        .copied()
+        .unwrap_or(Value::Number(NO_COMPONENTS))
 }
 
 pub fn components_of(value: Value) -> Components
@@ -65,36 +60,29 @@ pub fn texture_type_of(value: Value) -> TypeInner
     }
 }
 
-pub fn components_at(values: &[Value], i: usize, handle: ExpressionHandle) -> Components
-    ensures { result ≡ components_of (value_at (take i values.now) handle.index) }
+pub fn components_at(values: &[Value], handle: ExpressionHandle) -> Components
+    ensures { result ≡ components_of (value_at values.now handle.index) }
 {
-    components_of(value_at(values, i, handle))
+    components_of(value_at(values, handle))
 }
 
-pub fn optional_at(
-    values: &[Value],
-    i: usize,
-    handle: Option<ExpressionHandle>,
-) -> Option<Components>
-    ensures { result ≡ optional (value_at (take i values.now)) handle }
+fn optional_at(values: &[Value], handle: Option<ExpressionHandle>) -> Option<Components>
+    ensures { result ≡ optional (value_at values.now) handle }
 {
-    match handle {
-        Some(handle) => Some(components_at(values, i, handle)),
-        None => None,
-    }
+    Some(components_at(values, handle?))
 }
 
-fn level_at(values: &[Value], i: usize, level: SampleLevel) -> Level
-    ensures { result ≡ level_of (value_at (take i values.now)) level }
+fn level_at(values: &[Value], level: SampleLevel) -> Level
+    ensures { result ≡ level_of (value_at values.now) level }
 {
     match level {
         SampleLevel::Auto => Level::Auto,
         SampleLevel::Zero => Level::Zero,
-        SampleLevel::Exact(level) => Level::Exact(components_at(values, i, level)),
-        SampleLevel::Bias(level) => Level::Bias(components_at(values, i, level)),
+        SampleLevel::Exact(level) => Level::Exact(components_at(values, level)),
+        SampleLevel::Bias(level) => Level::Bias(components_at(values, level)),
         SampleLevel::Gradient { x, y } => {
-            let x = components_at(values, i, x);
-            let y = components_at(values, i, y);
+            let x = components_at(values, x);
+            let y = components_at(values, y);
             Level::Gradient { x, y }
         }
     }
@@ -103,10 +91,7 @@ fn level_at(values: &[Value], i: usize, level: SampleLevel) -> Level
 fn load_level(lod: Option<Components>) -> Level
     ensures { result ≡ load_level lod }
 {
-    match lod {
-        Some(lod) => Level::Exact(lod),
-        None => Level::Unstated,
-    }
+    lod.map_or(Level::Unstated, Level::Exact)
 }
 
 pub fn dimension_of(ty: TypeInner) -> ImageDimension
@@ -136,51 +121,65 @@ fn sort_of(gather: Option<SwizzleComponent>) -> Sort
     }
 }
 
-pub fn sample_request(values: &[Value], i: usize, e: Expression) -> Request
-    ensures { result ≡ sample_request (value_at (take i values.now)) e }
+// What every request of an image has; the other parts are missing.
+pub fn image_request(
+    values: &[Value],
+    sort: Sort,
+    image: ExpressionHandle,
+    coordinate: ExpressionHandle,
+    layer: Option<ExpressionHandle>,
+) -> Request
+    ensures { result ≡ image_request (value_at values.now) sort image coordinate layer }
 {
-    let image = value_at(values, i, e.base);
+    let image = value_at(values, image);
     let ty = texture_type_of(image);
-    let parts = e.image;
     Request {
         texture: resource_of(image),
-        sampler: Some(resource_of(value_at(values, i, e.other))),
-        sort: sort_of(parts.gather),
+        sampler: None,
+        sort,
         kind: kind_in(ty),
         dim: dimension_of(ty),
         depth: depth_of(ty),
-        coordinate: components_at(values, i, parts.coordinate),
-        layer: optional_at(values, i, parts.array_index),
-        gather: parts.gather,
+        coordinate: components_at(values, coordinate),
+        layer: optional_at(values, layer),
+        gather: None,
         sample: None,
-        offset: optional_at(values, i, parts.offset),
-        level: level_at(values, i, parts.level),
-        reference: optional_at(values, i, parts.depth_ref),
+        offset: None,
+        level: Level::Unstated,
+        reference: None,
         value: None,
     }
 }
 
-pub fn load_request(values: &[Value], i: usize, e: Expression) -> Request
-    ensures { result ≡ load_request (value_at (take i values.now)) e }
+pub fn sample_request(values: &[Value], e: Expression) -> Request
+    ensures { result ≡ sample_request (value_at values.now) e }
 {
-    let image = value_at(values, i, e.base);
-    let ty = texture_type_of(image);
+    let parts = e.image;
+    let sort = sort_of(parts.gather);
+    Request {
+        sampler: Some(resource_of(value_at(values, e.other))),
+        gather: parts.gather,
+        offset: optional_at(values, parts.offset),
+        level: level_at(values, parts.level),
+        reference: optional_at(values, parts.depth_ref),
+        ..image_request(values, sort, e.base, parts.coordinate, parts.array_index)
+    }
+}
+
+pub fn load_request(values: &[Value], e: Expression) -> Request
+    ensures { result ≡ load_request (value_at values.now) e }
+{
     let parts = e.image;
     Request {
-        texture: resource_of(image),
-        sampler: None,
-        sort: Sort::Load,
-        kind: kind_in(ty),
-        dim: dimension_of(ty),
-        depth: depth_of(ty),
-        coordinate: components_at(values, i, parts.coordinate),
-        layer: optional_at(values, i, parts.array_index),
-        gather: None,
-        sample: optional_at(values, i, parts.sample),
-        offset: None,
-        level: load_level(optional_at(values, i, parts.lod)),
-        reference: None,
-        value: None,
+        sample: optional_at(values, parts.sample),
+        level: load_level(optional_at(values, parts.lod)),
+        ..image_request(
+            values,
+            Sort::Load,
+            e.base,
+            parts.coordinate,
+            parts.array_index,
+        )
     }
 }
 
@@ -188,10 +187,9 @@ pub fn load_request(values: &[Value], i: usize, e: Expression) -> Request
 pub fn request_of(values: &[Value], e: Expression) -> Option<Request>
     ensures { result ≡ request_of (value_at values.now) e }
 {
-    let n = values.len();
     match e.tag {
-        ExpressionTag::ImageSample => Some(sample_request(values, n, e)),
-        ExpressionTag::ImageLoad => Some(load_request(values, n, e)),
+        ExpressionTag::ImageSample => Some(sample_request(values, e)),
+        ExpressionTag::ImageLoad => Some(load_request(values, e)),
         _ => None,
     }
 }

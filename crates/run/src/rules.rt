@@ -1,16 +1,14 @@
 // What each expression needs, and the type of what it comes to. No value is looked at.
-ghost use Rattle.std.specs.Prelude.{◌≡◌};
-ghost use Rattle.run.specs.Rules.{is_of, is_int, test, fine, texture_type, number_type, splat_type, component_number, has_pattern, swizzle_type, cast_type, place_type};
+ghost use Rattle.std.specs.Prelude.{◌≡◌, Bool};
+ghost use Rattle.run.specs.Rules.{is_of, is_int, of_first, texture_type, number_type, splat_type, has_pattern, swizzle_type, cast_type, place_type};
 ghost use Rattle.records.specs.declared.types.TypeInner.TheVariants.{Scalar};
 
-use crate::types::{same_type, scalar_kind, size_of};
+use crate::types::scalar_kind;
 use records::{ImageDimension, ScalarKind, SwizzleComponent, TypeInner, VectorSize};
 
-// What the first pass sees of an expression.
+// Why an expression has no type.
 #[derive(Clone, Copy)]
-pub enum Sight {
-    // it comes to this type
-    Fine(TypeInner),
+pub enum Miss {
     // it needs a value that is not worked out, or a component or type that an operand lacks
     Lacking,
     // it names a number outside the used lists
@@ -20,10 +18,7 @@ pub enum Sight {
 pub fn is_of(ty: Option<TypeInner>, wanted: TypeInner) -> bool
     ensures { result ≡ is_of ty wanted }
 {
-    match ty {
-        Some(ty) => same_type(ty, wanted),
-        None => false,
-    }
+    ty.is_some_and(|ty| ty == wanted)
 }
 
 pub fn is_integer_scalar(ty: Option<TypeInner>) -> bool
@@ -36,42 +31,18 @@ pub fn is_integer_scalar(ty: Option<TypeInner>) -> bool
 pub fn place_type(dim: ImageDimension, kind: ScalarKind) -> TypeInner
     ensures { result ≡ place_type dim kind }
 {
-    match dim {
-        ImageDimension::D1 => TypeInner::Scalar(kind),
-        ImageDimension::D2 => TypeInner::Vector {
-            size: VectorSize::Bi,
-            kind,
-        },
-        ImageDimension::D3 | ImageDimension::Cube => TypeInner::Vector {
-            size: VectorSize::Tri,
-            kind,
-        },
-    }
+    let size = match dim {
+        ImageDimension::D1 => return TypeInner::Scalar(kind),
+        ImageDimension::D2 => VectorSize::Bi,
+        ImageDimension::D3 | ImageDimension::Cube => VectorSize::Tri,
+    };
+    TypeInner::Vector { size, kind }
 }
 
 pub fn is_integer_place(ty: Option<TypeInner>, dim: ImageDimension) -> bool
     ensures { result ≡ is_int ty (place_type dim) }
 {
     is_of(ty, place_type(dim, ScalarKind::Sint)) || is_of(ty, place_type(dim, ScalarKind::Uint))
-}
-
-pub fn when_fits(fits: bool, ty: TypeInner) -> Sight
-    ensures { result ≡ test fits ty }
-{
-    if fits {
-        Sight::Fine(ty)
-    } else {
-        Sight::Lacking
-    }
-}
-
-pub fn when_some(ty: Option<TypeInner>) -> Sight
-    ensures { result ≡ fine ty }
-{
-    match ty {
-        Some(ty) => Sight::Fine(ty),
-        None => Sight::Lacking,
-    }
 }
 
 pub fn texture_type(ty: TypeInner) -> Option<TypeInner>
@@ -95,31 +66,24 @@ pub fn number_type(ty: TypeInner) -> Option<TypeInner>
 pub fn splat_type(size: VectorSize, ty: TypeInner) -> Option<TypeInner>
     ensures { result ≡ splat_type size ty }
 {
-    match scalar_kind(ty) {
-        Some(kind) => Some(TypeInner::Vector { size, kind }),
-        None => None,
-    }
+    let kind = scalar_kind(ty)?;
+    Some(TypeInner::Vector { size, kind })
 }
 
-pub fn component_number(component: SwizzleComponent) -> u32
-    ensures { result ≡ component_number component }
+// Whether the first of four, as many as the size says, pass a test.
+pub fn of_first<T: Copy, F: Fn(T) -> bool>(size: VectorSize, four: [T; 4], passes: F) -> bool
+    requires { F.IsAlwaysCallable passes }
+    ensures { (d : T) (test : T → Bool) → ((x : T) (r : Bool) → F.post passes x r → r ≡ test x) → result ≡ of_first size four d test }
 {
-    match component {
-        SwizzleComponent::X => 0,
-        SwizzleComponent::Y => 1,
-        SwizzleComponent::Z => 2,
-        SwizzleComponent::W => 3,
-    }
+    let [a, b, c, d] = four;
+    (passes(a) && passes(b)) && (size.count() < 3 || passes(c)) && (size.count() < 4 || passes(d))
 }
 
 // Whether a vector of `count` components has those that the first `size` of a pattern name.
 fn has_pattern(count: u32, size: VectorSize, pattern: [SwizzleComponent; 4]) -> bool
     ensures { result ≡ has_pattern count size pattern }
 {
-    let first = component_number(pattern[0]) < count && component_number(pattern[1]) < count;
-    let third = size_of(size) < 3 || component_number(pattern[2]) < count;
-    let fourth = size_of(size) < 4 || component_number(pattern[3]) < count;
-    first && (third && fourth)
+    of_first(size, pattern, |component| component.index() < count)
 }
 
 pub fn swizzle_type(
@@ -130,12 +94,8 @@ pub fn swizzle_type(
     ensures { result ≡ swizzle_type size pattern ty }
 {
     match ty {
-        TypeInner::Vector { size: from, kind } => {
-            if has_pattern(size_of(from), size, pattern) {
-                Some(TypeInner::Vector { size, kind })
-            } else {
-                None
-            }
+        TypeInner::Vector { size: from, kind } if has_pattern(from.count(), size, pattern) => {
+            Some(TypeInner::Vector { size, kind })
         }
         _ => None,
     }

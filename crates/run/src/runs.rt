@@ -3,7 +3,7 @@ ghost use Rattle.std.specs.Prelude.{◌≡◌, length};
 ghost use Rattle.run.specs.Ends.{end_of, after_run, over};
 ghost use Rattle.run.specs.Envs.{env_of};
 ghost use Rattle.run.specs.Inputs.{halting_inputs};
-ghost use Rattle.run.specs.Runs.{or_else, halting};
+ghost use Rattle.run.specs.Runs.{or_else, or_halt, halting};
 ghost use Rattle.run.specs.Statics.{known_before};
 ghost use Rattle.run.specs.Stores.{halting_stores};
 
@@ -38,16 +38,12 @@ impl Halt {
 
 impl Lists<'_> {
     // All that can halt a run, in order: the inputs, the expressions, the stores.
-    fn halt(self, inputs: &[Components]) -> Option<Halt>
-        ensures { result ≡ or_else (halting_inputs (env_of self.entry) inputs.now self.entry.expressions.now) (or_else (halting (env_of self.entry) (known_before (env_of self.entry) self.entry.expressions.now) 0 self.entry.expressions.now) (halting_stores (env_of self.entry) (known_before (env_of self.entry) self.entry.expressions.now (env_of self.entry).count) 0 self.entry.statements.now)) }
+    fn check(self, inputs: &[Components]) -> Result<(), Halt>
+        ensures { result ≡ or_halt (or_else (halting_inputs (env_of self.entry) inputs.now self.entry.expressions.now) (or_else (halting (env_of self.entry) (known_before (env_of self.entry) self.entry.expressions.now) 0 self.entry.expressions.now) (halting_stores (env_of self.entry) (known_before (env_of self.entry) self.entry.expressions.now (env_of self.entry).count) 0 self.entry.statements.now))) }
     {
-        if let Some(halt) = self.first_input_halt(inputs) {
-            return Some(halt);
-        }
-        if let Some(halt) = self.first_halt() {
-            return Some(halt);
-        }
-        self.first_store_halt()
+        self.check_inputs(inputs)?;
+        self.check_expressions()?;
+        self.check_stores()
     }
 }
 
@@ -65,16 +61,13 @@ pub fn run<U: TextureUnit>(
     ensures listed { requests.new ≡ over (after_run (env_of lists.entry) (U.answers unit.now) inputs.now lists.entry.expressions.now lists.entry.statements.now (length values.old) (length requests.old)).requests requests.old }
 {
     let n = lists.expressions.len();
-    if values.len() < n {
+    if values.len() < n || requests.len() < store_count(lists.statements) {
         return Err(Error::Full);
     }
-    if requests.len() < store_count(lists.statements) {
-        return Err(Error::Full);
-    }
-    if let Some(halt) = lists.halt(inputs) {
+    if let Err(halt) = lists.check(inputs) {
         return halt.end();
     }
     fill_values(lists, unit, inputs, values);
-    fill_stores(lists.statements, values, n, requests);
+    fill_stores(lists.statements, &values[..n], requests);
     Ok(Outcome::Done)
 }

@@ -1,131 +1,117 @@
 // The first pass at one expression: its type, or why it has none.
 ghost use Rattle.std.specs.Prelude.{◌≡◌};
 ghost use Rattle.run.specs.Envs.{env_of};
-ghost use Rattle.run.specs.Statics.{known_before};
-ghost use Rattle.run.specs.Rules.{resource, element, made_of, leaf_rule, rule_of, result_fits, seen};
+ghost use Rattle.run.specs.Statics.{known_by};
+ghost use Rattle.run.specs.Rules.{resource, element, made_of, rule_of, result_fits, seen};
 
-use crate::fits::{compose_type, load_type, sample_type};
+use crate::before::Before;
+use crate::fits::FLOAT;
 use crate::lists::Lists;
 use crate::rules::{
-    Sight, cast_type, is_integer_scalar, is_of, number_type, splat_type, swizzle_type,
-    texture_type, when_fits, when_some,
+    Miss, cast_type, is_integer_scalar, number_type, splat_type, swizzle_type, texture_type,
 };
-use crate::statics::{literal_type, operand_type};
-use crate::types::{part_type, same_type};
-use records::{Expression, ExpressionTag, ScalarKind, TypeHandle, TypeInner};
+use crate::statics::literal_type;
+use crate::types::part_type;
+use records::{Expression, ExpressionTag, TypeHandle, TypeInner};
 
 impl Lists<'_> {
     // A texture, a sampler or an array of them, by the handle of its type.
-    fn resource(self, handle: Option<TypeHandle>) -> Sight
+    fn resource(self, handle: Option<TypeHandle>) -> Result<TypeInner, Miss>
         ensures { result ≡ resource (env_of self.entry) handle }
     {
-        let Some(handle) = handle else {
-            return Sight::Outside;
-        };
-        match self.type_at(handle) {
-            Some(ty) => when_some(texture_type(ty)),
-            None => Sight::Outside,
-        }
+        let ty = self.type_by(handle).ok_or(Miss::Outside)?;
+        texture_type(ty).ok_or(Miss::Lacking)
     }
 
-    fn element(self, base: TypeInner, index: TypeInner) -> Sight
+    fn element(self, base: TypeInner, index: TypeInner) -> Result<TypeInner, Miss>
         ensures { result ≡ element (env_of self.entry) base index }
     {
-        let TypeInner::BindingArray { base } = base else {
-            return Sight::Lacking;
-        };
-        if is_integer_scalar(Some(index)) {
-            self.resource(Some(base))
-        } else {
-            Sight::Lacking
-        }
-    }
-
-    fn result_fits(self, res: Option<TypeHandle>, ty: TypeInner) -> Sight
-        ensures { result ≡ result_fits (env_of self.entry) res ty }
-    {
-        let Some(res) = res else {
-            return Sight::Fine(ty);
-        };
-        match self.type_at(res) {
-            Some(wanted) => when_fits(same_type(ty, wanted), ty),
-            None => Sight::Outside,
-        }
-    }
-
-    // A record that is made of an expression of the type `base`.
-    fn made_of(self, i: usize, e: Expression, base: TypeInner) -> Sight
-        ensures { result ≡ made_of (env_of self.entry) (known_before (env_of self.entry) self.entry.expressions.now i) e base e.tag }
-    {
-        match e.tag {
-            ExpressionTag::Access => match operand_type(self, i, e.other) {
-                Some(index) => self.element(base, index),
-                None => Sight::Lacking,
-            },
-            ExpressionTag::AccessIndex => when_some(part_type(e.index, base)),
-            ExpressionTag::Splat => when_some(splat_type(e.size, base)),
-            ExpressionTag::Swizzle => when_some(swizzle_type(e.size, e.pattern, base)),
-            ExpressionTag::As => when_some(cast_type(base)),
-            ExpressionTag::ImageSample => sample_type(self, i, e, base),
-            ExpressionTag::ImageLoad => load_type(self, i, e, base),
-            _ => Sight::Lacking,
-        }
-    }
-
-    // A record whose type does not hang on one base alone.
-    fn leaf_rule(self, i: usize, e: Expression) -> Option<Sight>
-        ensures { result ≡ leaf_rule (env_of self.entry) (known_before (env_of self.entry) self.entry.expressions.now i) e e.tag }
-    {
-        let float = TypeInner::Scalar(ScalarKind::Float);
-        match e.tag {
-            ExpressionTag::GlobalVariable => Some(self.resource(self.variable_at(e.variable))),
-            ExpressionTag::FunctionArgument => Some(self.resource(self.argument_at(e.argument))),
-            ExpressionTag::Constant => match self.constant_at(e.constant) {
-                Some(literal) => Some(Sight::Fine(literal_type(literal))),
-                None => Some(Sight::Outside),
-            },
-            ExpressionTag::Supplied => match self.type_at(e.ty) {
-                Some(ty) => Some(when_some(number_type(ty))),
-                None => Some(Sight::Outside),
-            },
-            ExpressionTag::Compose => match self.type_at(e.ty) {
-                Some(ty) => Some(compose_type(self, i, e, ty)),
-                None => Some(Sight::Outside),
-            },
-            ExpressionTag::Divide => {
-                let left = is_of(operand_type(self, i, e.base), float);
-                Some(when_fits(left && is_of(operand_type(self, i, e.other), float), float))
+        match base {
+            TypeInner::BindingArray { base } if is_integer_scalar(Some(index)) => {
+                self.resource(Some(base))
             }
-            ExpressionTag::Round => Some(when_fits(
-                is_of(operand_type(self, i, e.base), float),
-                float,
-            )),
-            _ => None,
+            _ => Err(Miss::Lacking),
         }
     }
 
-    fn rule(self, i: usize, e: Expression) -> Sight
-        ensures { result ≡ rule_of (env_of self.entry) (known_before (env_of self.entry) self.entry.expressions.now i) e }
+    fn result_fits(self, stated: Option<TypeHandle>, ty: TypeInner) -> Result<TypeInner, Miss>
+        ensures { result ≡ result_fits (env_of self.entry) stated ty }
     {
-        if let Some(sight) = self.leaf_rule(i, e) {
-            return sight;
+        let Some(handle) = stated else {
+            return Ok(ty);
+        };
+        if ty == self.type_at(handle).ok_or(Miss::Outside)? {
+            Ok(ty)
+        } else {
+            Err(Miss::Lacking)
         }
-        match operand_type(self, i, e.base) {
-            Some(base) => self.made_of(i, e, base),
-            None => Sight::Lacking,
+    }
+}
+
+impl Before<'_> {
+    // A record that is made of an expression of the type `base`.
+    fn made_of(self, e: Expression, base: TypeInner) -> Result<TypeInner, Miss>
+        ensures { result ≡ made_of (env_of self.entry.lists) (known_by self.entry) e base e.tag }
+    {
+        let ty = match e.tag {
+            ExpressionTag::Access => {
+                let index = self.type_of(e.other).ok_or(Miss::Lacking)?;
+                return self.lists.element(base, index);
+            }
+            ExpressionTag::AccessIndex => part_type(e.index, base),
+            ExpressionTag::Splat => splat_type(e.size, base),
+            ExpressionTag::Swizzle => swizzle_type(e.size, e.pattern, base),
+            ExpressionTag::As => cast_type(base),
+            ExpressionTag::ImageSample => return self.sample_type(e, base),
+            ExpressionTag::ImageLoad => return self.load_type(e, base),
+            _ => None,
+        };
+        ty.ok_or(Miss::Lacking)
+    }
+
+    fn rule(self, e: Expression) -> Result<TypeInner, Miss>
+        ensures { result ≡ rule_of (env_of self.entry.lists) (known_by self.entry) e }
+    {
+        let lists = self.lists;
+        match e.tag {
+            ExpressionTag::GlobalVariable => lists.resource(lists.variable_at(e.variable)),
+            ExpressionTag::FunctionArgument => lists.resource(lists.argument_at(e.argument)),
+            ExpressionTag::Constant => {
+                let literal = lists.constant_at(e.constant).ok_or(Miss::Outside)?;
+                Ok(literal_type(literal))
+            }
+            ExpressionTag::Supplied => {
+                let ty = lists.type_at(e.ty).ok_or(Miss::Outside)?;
+                number_type(ty).ok_or(Miss::Lacking)
+            }
+            ExpressionTag::Compose => {
+                let ty = lists.type_at(e.ty).ok_or(Miss::Outside)?;
+                self.compose_type(e, ty)
+            }
+            ExpressionTag::Divide if self.is(e.base, FLOAT) && self.is(e.other, FLOAT) => Ok(FLOAT),
+            ExpressionTag::Round if self.is(e.base, FLOAT) => Ok(FLOAT),
+            ExpressionTag::Divide | ExpressionTag::Round => Err(Miss::Lacking),
+            ExpressionTag::Access
+            | ExpressionTag::AccessIndex
+            | ExpressionTag::Splat
+            | ExpressionTag::Swizzle
+            | ExpressionTag::As
+            | ExpressionTag::ImageSample
+            | ExpressionTag::ImageLoad => {
+                let base = self.type_of(e.base).ok_or(Miss::Lacking)?;
+                self.made_of(e, base)
+            }
         }
     }
 
     // What is seen of expression i, of which this is the record.
-    pub fn see(self, i: usize, e: Expression) -> Sight
-        ensures { result ≡ seen (env_of self.entry) (known_before (env_of self.entry) self.entry.expressions.now i) e }
+    pub fn see(self, e: Expression) -> Result<TypeInner, Miss>
+        ensures { result ≡ seen (env_of self.entry.lists) (known_by self.entry) e }
     {
-        if !self.has_result(e.result) || !self.has_numbers(e) {
-            return Sight::Outside;
+        if !self.lists.has_result(e.result) || !self.lists.has_numbers(e) {
+            return Err(Miss::Outside);
         }
-        match self.rule(i, e) {
-            Sight::Fine(ty) => self.result_fits(e.result, ty),
-            other => other,
-        }
+        let ty = self.rule(e)?;
+        self.lists.result_fits(e.result, ty)
     }
 }

@@ -1,9 +1,9 @@
 // The type of an expression from the records alone, along one path of bases.
-ghost use Rattle.std.specs.Prelude.{◌≡◌, Some};
+ghost use Rattle.std.specs.Prelude.{◌≡◌};
+ghost use Rattle.std.specs.List.{slice_get};
 ghost use Rattle.run.specs.Envs.{env_of};
-ghost use Rattle.run.specs.Rules.{literal_type, is_depth, answered_by};
-ghost use Rattle.run.specs.Statics.{type_by, element_type, sampled_type, loaded_type, static_tag, static, known_before};
-ghost use Rattle.run.specs.Types.{on};
+ghost use Rattle.run.specs.Rules.{literal_type, is_depth, answered_by, sampled_by};
+ghost use Rattle.run.specs.Statics.{type_by, element_type, sampled_type, loaded_type, static_tag, static};
 
 use crate::lists::Lists;
 use crate::types::{class_kind, kind_in};
@@ -25,33 +25,34 @@ pub fn literal_type(literal: Literal) -> TypeInner
 pub fn is_depth(class: ImageClass) -> bool
     ensures { result ≡ is_depth class }
 {
-    match class {
-        ImageClass::Depth { .. } => true,
-        _ => false,
-    }
+    matches!(class, ImageClass::Depth { .. })
 }
 
 pub fn answered_by(one: bool, class: ImageClass) -> TypeInner
     ensures { result ≡ answered_by one class }
 {
     if one {
-        TypeInner::Scalar(ScalarKind::Float)
-    } else {
-        TypeInner::Vector {
-            size: VectorSize::Quad,
-            kind: class_kind(class),
-        }
+        return TypeInner::Scalar(ScalarKind::Float);
     }
+    TypeInner::Vector {
+        size: VectorSize::Quad,
+        kind: class_kind(class),
+    }
+}
+
+// The type of what a sample or gather of an image of a class comes to.
+pub fn sampled_by(e: Expression, class: ImageClass) -> TypeInner
+    ensures { result ≡ sampled_by e class }
+{
+    let one = (is_depth(class) || e.image.depth_ref.is_some()) && e.image.gather.is_none();
+    answered_by(one, class)
 }
 
 fn sampled_type(e: Expression, ty: TypeInner) -> Option<TypeInner>
     ensures { result ≡ sampled_type e ty }
 {
     match ty {
-        TypeInner::Image { class, .. } => {
-            let one = (is_depth(class) || e.image.depth_ref.is_some()) && !e.image.gather.is_some();
-            Some(answered_by(one, class))
-        }
+        TypeInner::Image { class, .. } => Some(sampled_by(e, class)),
         _ => None,
     }
 }
@@ -65,23 +66,17 @@ fn loaded_type(ty: TypeInner) -> Option<TypeInner>
     }
 }
 
-fn literal_by(literal: Option<Literal>) -> Option<TypeInner>
-    ensures { result ≡ on literal (λ l. Some (literal_type l)) }
-{
-    match literal {
-        Some(literal) => Some(literal_type(literal)),
-        None => None,
-    }
-}
-
 impl Lists<'_> {
+    fn expression_at(self, handle: ExpressionHandle) -> Option<Expression>
+        ensures { result ≡ slice_get self.entry.expressions.now handle.index }
+    {
+        self.expressions.get(handle.index as usize).copied()
+    }
+
     pub(crate) fn type_by(self, handle: Option<TypeHandle>) -> Option<TypeInner>
         ensures { result ≡ type_by (env_of self.entry) handle }
     {
-        match handle {
-            Some(handle) => self.type_at(handle),
-            None => None,
-        }
+        self.type_at(handle?)
     }
 
     pub(crate) fn element_type(self, base: TypeInner) -> Option<TypeInner>
@@ -100,7 +95,7 @@ impl Lists<'_> {
         match (e.tag, base) {
             (ExpressionTag::GlobalVariable, _) => self.type_by(self.variable_at(e.variable)),
             (ExpressionTag::FunctionArgument, _) => self.type_by(self.argument_at(e.argument)),
-            (ExpressionTag::Constant, _) => literal_by(self.constant_at(e.constant)),
+            (ExpressionTag::Constant, _) => self.constant_at(e.constant).map(literal_type),
             (ExpressionTag::Supplied | ExpressionTag::Compose, _) => self.type_at(e.ty),
             (ExpressionTag::Divide | ExpressionTag::Round, _) => Some(TypeInner::Scalar(
                 ScalarKind::Float,
@@ -121,34 +116,18 @@ impl Lists<'_> {
     }
 }
 
-// The type of an expression by its number: its stated type, or what its base gives it.
-pub fn static_type(lists: Lists<'_>, handle: u32) -> Option<TypeInner>
-    ensures { result ≡ static (env_of lists.entry) lists.entry.expressions.now handle }
+// The type of an expression: its stated type, or what its base gives it.
+pub fn static_type(lists: Lists<'_>, handle: ExpressionHandle) -> Option<TypeInner>
+    ensures { result ≡ static (env_of lists.entry) lists.entry.expressions.now handle.index }
 {
-    let i = handle as usize;
-    if i >= lists.expressions.len() {
-        return None;
-    }
-    let e = lists.expressions[i];
+    let e = lists.expression_at(handle)?;
     if let Some(result) = e.result {
         return lists.type_at(result);
     }
-    let base = e.base.index;
-    let below = if base < handle {
-        static_type(lists, base)
+    let below = if e.base.index < handle.index {
+        static_type(lists, e.base)
     } else {
         None
     };
     lists.static_tag(below, e)
-}
-
-// What is known of an operand before expression i: nothing, if it comes later.
-pub fn operand_type(lists: Lists<'_>, i: usize, operand: ExpressionHandle) -> Option<TypeInner>
-    ensures { result ≡ known_before (env_of lists.entry) lists.entry.expressions.now i operand.index }
-{
-    if (operand.index as usize) < i {
-        static_type(lists, operand.index)
-    } else {
-        None
-    }
 }

@@ -1,33 +1,20 @@
 // What each expression is worth, from the values of its operands.
-ghost use Rattle.std.specs.Prelude.{◌≡◌, take, slice_set};
-ghost use Rattle.std.specs.Option.{option_map, unwrap_or};
+ghost use Rattle.std.specs.Prelude.{◌≡◌, slice_set};
 ghost use Rattle.units.specs.Requests.{clean};
 ghost use Rattle.run.specs.Envs.{env_of};
 ghost use Rattle.run.specs.Runs.{value_at, input_at};
-ghost use Rattle.run.specs.Worth.{width_of, no_components, literal_components, whole, index_bits, element_of, numbers_of, computed_tag, worth};
+ghost use Rattle.run.specs.Worth.{literal_components, whole, index_bits, element_of, numbers_of, computed_tag, worth};
 
 use crate::lists::Lists;
 use crate::requests::{
     NO_COMPONENTS, components_at, components_of, load_request, resource_of, sample_request,
     texture_type_of, value_at,
 };
-use crate::rules::component_number;
-use records::{Expression, ExpressionTag, Literal, SwizzleComponent, TypeInner, VectorSize};
+use records::{Expression, ExpressionTag, Literal, SwizzleComponent, TypeInner};
 use units::{
     Components, Lanes, Reference, Resource, Root, TextureUnit, Value, Width, bits_of_sint,
-    cast_components, choose, clean, compose, divide_scalars, first_sint, first_uint,
-    round_components,
+    cast_components, choose, clean, compose, divide_scalars, round_components,
 };
-
-pub fn width_of(size: VectorSize) -> Width
-    ensures { result ≡ width_of size }
-{
-    match size {
-        VectorSize::Bi => Width::Two,
-        VectorSize::Tri => Width::Three,
-        VectorSize::Quad => Width::Four,
-    }
-}
 
 fn literal_components(literal: Literal) -> Components
     ensures { result ≡ literal_components literal }
@@ -40,15 +27,6 @@ fn literal_components(literal: Literal) -> Components
     Components {
         width: Width::One,
         lanes,
-    }
-}
-
-fn constant_components(literal: Option<Literal>) -> Components
-    ensures { result ≡ unwrap_or (option_map literal_components literal) no_components }
-{
-    match literal {
-        Some(literal) => literal_components(literal),
-        None => NO_COMPONENTS,
     }
 }
 
@@ -72,8 +50,8 @@ fn index_bits(lanes: Lanes) -> u32
     ensures { result ≡ index_bits lanes }
 {
     match lanes {
-        Lanes::Sint(_) => bits_of_sint(first_sint(lanes)),
-        Lanes::Uint(_) => first_uint(lanes),
+        Lanes::Sint(four) => bits_of_sint(four[0]),
+        Lanes::Uint(four) => four[0],
         _ => 0,
     }
 }
@@ -81,11 +59,7 @@ fn index_bits(lanes: Lanes) -> u32
 fn numbers_of(pattern: [SwizzleComponent; 4]) -> [u32; 4]
     ensures { result ≡ numbers_of pattern }
 {
-    let x = component_number(pattern[0]);
-    let y = component_number(pattern[1]);
-    let z = component_number(pattern[2]);
-    let w = component_number(pattern[3]);
-    [x, y, z, w]
+    pattern.map(|component| component.index())
 }
 
 // The indexes with one more, if it is among the first four.
@@ -102,12 +76,10 @@ fn with_index(indexes: [u32; 4], depth: u32, bits: u32) -> [u32; 4]
 fn input_at(inputs: &[Components], number: u32) -> Components
     ensures { result ≡ input_at inputs.now number }
 {
-    let k = number as usize;
-    if k < inputs.len() {
-        inputs[k]
-    } else {
-        NO_COMPONENTS
-    }
+    inputs
+        .get(number as usize)
+        .copied()
+        .unwrap_or(NO_COMPONENTS)
 }
 
 impl Lists<'_> {
@@ -131,38 +103,34 @@ impl Lists<'_> {
 }
 
 // The components of a record that computes them from those of other expressions.
-fn compute(values: &[Value], i: usize, e: Expression) -> Components
-    ensures { result ≡ computed_tag (value_at (take i values.now)) e e.tag }
+fn compute(values: &[Value], e: Expression) -> Components
+    ensures { result ≡ computed_tag (value_at values.now) e e.tag }
 {
-    let base = components_at(values, i, e.base);
+    let base = components_at(values, e.base);
     match e.tag {
         ExpressionTag::AccessIndex => choose(Width::One, [e.index; 4], base),
-        ExpressionTag::Splat => choose(width_of(e.size), [0; 4], base),
-        ExpressionTag::Swizzle => choose(width_of(e.size), numbers_of(e.pattern), base),
-        ExpressionTag::Divide => divide_scalars(base, components_at(values, i, e.other)),
+        ExpressionTag::Splat => choose(e.size.into(), [0; 4], base),
+        ExpressionTag::Swizzle => choose(e.size.into(), numbers_of(e.pattern), base),
+        ExpressionTag::Divide => divide_scalars(base, components_at(values, e.other)),
         ExpressionTag::Round => round_components(base),
         ExpressionTag::As => cast_components(base),
         ExpressionTag::Compose => {
-            let a = components_at(values, i, e.components[0]);
-            let b = components_at(values, i, e.components[1]);
-            let c = components_at(values, i, e.components[2]);
-            let d = components_at(values, i, e.components[3]);
-            compose(width_of(e.size), a, b, c, d)
+            let [a, b, c, d] = e.components.map(|part| components_at(values, part));
+            compose(e.size.into(), a, b, c, d)
         }
         _ => base,
     }
 }
 
-// The value of expression i, of which this is the record, from those before it.
+// The value of an expression from those before it.
 pub fn work_out<U: TextureUnit>(
     lists: Lists<'_>,
     unit: &U,
     inputs: &[Components],
     values: &[Value],
-    i: usize,
     e: Expression,
 ) -> Value
-    ensures { result ≡ worth (env_of lists.entry) (U.answers unit.now) (input_at inputs.now) (value_at (take i values.now)) e }
+    ensures { result ≡ worth (env_of lists.entry) (U.answers unit.now) (input_at inputs.now) (value_at values.now) e }
 {
     match e.tag {
         ExpressionTag::GlobalVariable => whole(
@@ -173,16 +141,17 @@ pub fn work_out<U: TextureUnit>(
             Root::Argument(e.argument),
             lists.type_by(lists.argument_at(e.argument)),
         ),
-        ExpressionTag::Constant => Value::Number(constant_components(lists.constant_at(
-            e.constant,
-        ))),
+        ExpressionTag::Constant => {
+            let components = lists.constant_at(e.constant).map(literal_components);
+            Value::Number(components.unwrap_or(NO_COMPONENTS))
+        }
         ExpressionTag::Supplied => Value::Number(clean(input_at(inputs, e.index))),
         ExpressionTag::Access => lists.element_of(
-            value_at(values, i, e.base),
-            value_at(values, i, e.other),
+            value_at(values, e.base),
+            value_at(values, e.other),
         ),
-        ExpressionTag::ImageSample => Value::Number(unit.ask(sample_request(values, i, e))),
-        ExpressionTag::ImageLoad => Value::Number(unit.ask(load_request(values, i, e))),
-        _ => Value::Number(compute(values, i, e)),
+        ExpressionTag::ImageSample => Value::Number(unit.ask(sample_request(values, e))),
+        ExpressionTag::ImageLoad => Value::Number(unit.ask(load_request(values, e))),
+        _ => Value::Number(compute(values, e)),
     }
 }

@@ -1,13 +1,12 @@
 -- What operations make of components: total, and right where the types are. A lane past the width is zero.
-use Rattle.std.specs.Prelude.{ℕ, Bool, false, List, [], ◌∷◌, ℤ, pos, slice_index, slice_index_or}
+use Rattle.std.specs.Prelude.{ℕ, false, List, [], ◌∷◌, pos, slice_index, slice_index_or}
 use Rattle.units.specs.declared.values.Width.{Width}
 use Rattle.units.specs.declared.values.Width.TheVariants.{One}
 use Rattle.units.specs.declared.values.Lanes.{Lanes}
 use Rattle.units.specs.declared.values.Lanes.TheVariants as lanes
 use Rattle.units.specs.declared.values.Components.{Components}
 use Rattle.units.specs.Arithmetic.{zero_float, quotient, nearest, to_sint, bits_to_sint}
-use Rattle.units.specs.Lanes.{fill}
-use Rattle.units.specs.Units.{first_float}
+use Rattle.units.specs.Lanes.{fill, first_float, first_sint, first_uint, first_bool}
 
 -- lanes by their numbers
 abbrev pub chosen_lanes : {X : Type 0} → X → Width → List ℕ → List X → List X
@@ -23,24 +22,6 @@ chosen_of w ns (lanes.Bool xs) = lanes.Bool (chosen_lanes false w ns xs)
 -- AccessIndex is one lane chosen, Splat the first lane over and over, Swizzle the lanes of a pattern
 abbrev pub chosen : Width → List ℕ → Components → Components
 chosen w ns c = record { width = w; lanes = chosen_of w ns c.lanes }
-
-abbrev pub first_sint : Lanes → ℤ
-first_sint (lanes.Float xs) = pos 0
-first_sint (lanes.Sint xs) = slice_index_or xs 0 (pos 0)
-first_sint (lanes.Uint xs) = pos 0
-first_sint (lanes.Bool xs) = pos 0
-
-abbrev pub first_uint : Lanes → ℕ
-first_uint (lanes.Float xs) = 0
-first_uint (lanes.Sint xs) = 0
-first_uint (lanes.Uint xs) = slice_index xs 0
-first_uint (lanes.Bool xs) = 0
-
-abbrev pub first_bool : Lanes → Bool
-first_bool (lanes.Float xs) = false
-first_bool (lanes.Sint xs) = false
-first_bool (lanes.Uint xs) = false
-first_bool (lanes.Bool xs) = slice_index_or xs 0 false
 
 -- four scalars, of the kind of the first
 abbrev pub composed_of : Width → Lanes → Lanes → Lanes → Lanes → Lanes

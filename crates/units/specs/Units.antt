@@ -1,5 +1,5 @@
 -- What the two units answer.
-use Rattle.std.specs.Prelude.{◌≡◌, Bool, true, false, cond, List, [], ◌∷◌, pos, slice_index_or, refl, Float}
+use Rattle.std.specs.Prelude.{◌≡◌, Bool, true, false, cond, List, [], ◌∷◌, pos, refl}
 use Rattle.std.proofs.Common.{ap}
 use Rattle.records.specs.declared.types.ScalarKind.{ScalarKind}
 use Rattle.records.specs.declared.types.ScalarKind.TheVariants as kinds
@@ -15,7 +15,7 @@ use Rattle.units.specs.declared.requests.Request.{Request}
 use Rattle.units.specs.declared.colour.ColourUnit.{ColourUnit}
 use Rattle.units.specs.declared.echo.EchoUnit.{EchoUnit}
 use Rattle.units.specs.Arithmetic.{zero_float}
-use Rattle.units.specs.Lanes.{fill}
+use Rattle.units.specs.Lanes.{fill, first_float}
 use Rattle.units.specs.Values.{type_of, kind_of}
 use Rattle.units.specs.Requests.{one_float, clean, clean_lanes, Answers, Answered, Typed}
 
@@ -26,15 +26,15 @@ no_lanes kinds.Float = lanes.Float (zero_float ∷ zero_float ∷ zero_float ∷
 no_lanes kinds.Bool = lanes.Bool (false ∷ false ∷ false ∷ false ∷ [])
 
 -- one colour for each kind; there is none for Bool
-abbrev pub colour_lanes : ColourUnit → ScalarKind → Lanes
-colour_lanes u kinds.Sint = lanes.Sint (fill (pos 0) Four u.sint)
-colour_lanes u kinds.Uint = lanes.Uint (fill 0 Four u.uint)
-colour_lanes u kinds.Float = lanes.Float (fill zero_float Four u.float)
-colour_lanes u kinds.Bool = no_lanes kinds.Bool
+abbrev pub colour_of : ColourUnit → ScalarKind → Lanes
+colour_of u kinds.Sint = lanes.Sint u.sint
+colour_of u kinds.Uint = lanes.Uint u.uint
+colour_of u kinds.Float = lanes.Float u.float
+colour_of u kinds.Bool = no_lanes kinds.Bool
 
 abbrev pub colour_answer : ColourUnit → Answers
 colour_answer u q =
-    cond (one_float q) (record { width = One; lanes = lanes.Float (fill zero_float One u.float) }) (record { width = Four; lanes = colour_lanes u q.kind })
+    cond (one_float q) (clean (record { width = One; lanes = colour_of u kinds.Float })) (clean (record { width = Four; lanes = colour_of u q.kind }))
 
 -- one of two answers, by what is asked, has the right type where each has
 pub answered : (q : Request) (one four : Components) → type_of (Number one) ≡ Scalar kinds.Float → clean one ≡ one
@@ -49,13 +49,14 @@ answered q one four t c u d = record { typed = typed (one_float q); cleaned = cl
     cleaned true = c
     cleaned false = d
 
-colour_type_is : (u : ColourUnit) (k : ScalarKind) → type_of (Number (record { width = Four; lanes = colour_lanes u k })) ≡ Vector Quad k
+colour_type_is : (u : ColourUnit) (k : ScalarKind) → type_of (Number (clean (record { width = Four; lanes = colour_of u k }))) ≡ Vector Quad k
 colour_type_is u kinds.Sint = refl
 colour_type_is u kinds.Uint = refl
 colour_type_is u kinds.Float = refl
 colour_type_is u kinds.Bool = refl
 
-colour_clean : (u : ColourUnit) (k : ScalarKind) → clean (record { width = Four; lanes = colour_lanes u k }) ≡ record { width = Four; lanes = colour_lanes u k }
+colour_clean : (u : ColourUnit) (k : ScalarKind)
+    → clean (clean (record { width = Four; lanes = colour_of u k })) ≡ clean (record { width = Four; lanes = colour_of u k })
 colour_clean u kinds.Sint = refl
 colour_clean u kinds.Uint = refl
 colour_clean u kinds.Float = refl
@@ -70,12 +71,6 @@ echo_lanes kinds.Sint w l = elim l [ lanes.Float xs ↦ no_lanes kinds.Sint | la
 echo_lanes kinds.Uint w l = elim l [ lanes.Float xs ↦ no_lanes kinds.Uint | lanes.Sint xs ↦ no_lanes kinds.Uint | lanes.Uint xs ↦ lanes.Uint (fill 0 w xs) | lanes.Bool xs ↦ no_lanes kinds.Uint ]
 echo_lanes kinds.Float w l = elim l [ lanes.Float xs ↦ lanes.Float (fill zero_float w xs) | lanes.Sint xs ↦ no_lanes kinds.Float | lanes.Uint xs ↦ no_lanes kinds.Float | lanes.Bool xs ↦ no_lanes kinds.Float ]
 echo_lanes kinds.Bool w l = elim l [ lanes.Float xs ↦ no_lanes kinds.Bool | lanes.Sint xs ↦ no_lanes kinds.Bool | lanes.Uint xs ↦ no_lanes kinds.Bool | lanes.Bool xs ↦ lanes.Bool (fill false w xs) ]
-
-abbrev pub first_float : Lanes → Float
-first_float (lanes.Float xs) = slice_index_or xs 0 zero_float
-first_float (lanes.Sint xs) = zero_float
-first_float (lanes.Uint xs) = zero_float
-first_float (lanes.Bool xs) = zero_float
 
 abbrev pub echo_of : Request → Lanes
 echo_of q = echo_lanes q.kind q.coordinate.width q.coordinate.lanes

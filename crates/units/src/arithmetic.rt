@@ -4,6 +4,7 @@ ghost use Rattle.units.specs.Arithmetic.{quotient, nearest, to_sint, bits_to_sin
 
 use std::num::saturating_f32_to_i32;
 
+#[tactic(auto, unfolding(crate::specs::Arithmetic::quotient))]
 pub fn divide(left: f32, right: f32) -> f32
     ensures { result ≡ quotient left right }
 {
@@ -11,6 +12,7 @@ pub fn divide(left: f32, right: f32) -> f32
 }
 
 // To the nearest whole number, ties to even.
+#[tactic(auto, unfolding(crate::specs::Arithmetic::nearest))]
 pub fn round(x: f32) -> f32
     ensures { result ≡ nearest x }
 {
@@ -18,6 +20,7 @@ pub fn round(x: f32) -> f32
 }
 
 // The fraction is dropped, and the number held to the Floats that are Sints.
+#[tactic(auto, unfolding(crate::specs::Arithmetic::to_sint))]
 pub fn to_sint(x: f32) -> i32
     ensures { result ≡ to_sint x }
 {
@@ -32,22 +35,14 @@ pub fn to_sint(x: f32) -> i32
 pub fn sint_of_bits(x: u32) -> i32
     ensures { result ≡ bits_to_sint x }
 {
-    if x < 0x8000_0000 {
-        x as i32
-    } else {
-        -1 - (0xffff_ffff - x) as i32
-    }
+    x.cast_signed()
 }
 
 // A Sint as a Uint of the same bits.
 pub fn bits_of_sint(x: i32) -> u32
     ensures { result ≡ sint_to_bits x }
 {
-    if x >= 0 {
-        x as u32
-    } else {
-        0xffff_ffff - (-1 - x) as u32
-    }
+    x.cast_unsigned()
 }
 
 pub fn examples_stand() -> u8

@@ -3,8 +3,8 @@ ghost use Rattle.std.specs.Prelude.{◌≡◌};
 ghost use Rattle.units.specs.Units.{no_lanes, echo_lanes, echo_answer, echo_typed};
 
 use crate::TextureUnit;
-use crate::lanes::fill;
-use crate::operations::first_float;
+use crate::lanes::Lane;
+use crate::operations::clean;
 use crate::requests::Request;
 use crate::values::{Components, Lanes, Width};
 use records::ScalarKind;
@@ -26,13 +26,10 @@ fn no_lanes(kind: ScalarKind) -> Lanes
 fn echo_lanes(kind: ScalarKind, coordinate: Components) -> Lanes
     ensures { result ≡ echo_lanes kind coordinate.width coordinate.lanes }
 {
-    let width = coordinate.width;
-    match (kind, coordinate.lanes) {
-        (ScalarKind::Float, Lanes::Float(xs)) => Lanes::Float(fill(0.0, width, xs)),
-        (ScalarKind::Sint, Lanes::Sint(xs)) => Lanes::Sint(fill(0, width, xs)),
-        (ScalarKind::Uint, Lanes::Uint(xs)) => Lanes::Uint(fill(0, width, xs)),
-        (ScalarKind::Bool, Lanes::Bool(xs)) => Lanes::Bool(fill(false, width, xs)),
-        _ => no_lanes(kind),
+    if coordinate.lanes.kind() == kind {
+        clean(coordinate).lanes
+    } else {
+        no_lanes(kind)
     }
 }
 
@@ -44,10 +41,7 @@ impl TextureUnit for EchoUnit {
     fn ask(&self, request: Request) -> Components {
         let lanes = echo_lanes(request.kind, request.coordinate);
         if request.one_float() {
-            Components {
-                width: Width::One,
-                lanes: Lanes::Float([first_float(lanes), 0.0, 0.0, 0.0]),
-            }
+            Components::float(f32::first(lanes))
         } else {
             Components {
                 width: Width::Four,

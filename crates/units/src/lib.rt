@@ -15,11 +15,8 @@ mod values;
 pub use arithmetic::{bits_of_sint, divide, examples_stand, round, sint_of_bits, to_sint};
 pub use colour::ColourUnit;
 pub use echo::EchoUnit;
-pub use lanes::fill;
-pub use operations::{
-    cast_components, choose, clean, compose, divide_scalars, first_bool, first_float, first_sint,
-    first_uint, round_components,
-};
+pub use lanes::{Lane, fill};
+pub use operations::{cast_components, choose, clean, compose, divide_scalars, round_components};
 pub use requests::{Level, Request, Sort};
 pub use values::{Components, Lanes, Reference, Resource, Root, Value, Width, shape_of};
 

@@ -49,10 +49,7 @@ impl Sort {
     pub fn is_gather(self) -> bool
         ensures { result ≡ is_gather self }
     {
-        match self {
-            Sort::Gather => true,
-            _ => false,
-        }
+        matches!(self, Sort::Gather)
     }
 }
 

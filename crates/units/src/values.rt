@@ -1,6 +1,6 @@
 // A value is what an expression comes to: components of one kind, or a reference to a texture or sampler.
 ghost use Rattle.std.specs.Prelude.{◌≡◌};
-ghost use Rattle.units.specs.Values.{count_of, kind_of, shape, as_handle, type_of};
+ghost use Rattle.units.specs.Values.{count_of, width_of, kind_of, float_scalar, shape, as_handle, type_of};
 
 use records::{FunctionArgumentHandle, GlobalVariableHandle, ScalarKind, TypeInner, VectorSize};
 
@@ -69,6 +69,18 @@ impl Width {
     }
 }
 
+impl From<VectorSize> for Width {
+    ghost from_gives = { λ size width. width ≡ width_of size };
+
+    fn from(size: VectorSize) -> Width {
+        match size {
+            VectorSize::Bi => Width::Two,
+            VectorSize::Tri => Width::Three,
+            VectorSize::Quad => Width::Four,
+        }
+    }
+}
+
 impl Lanes {
     pub fn kind(self) -> ScalarKind
         ensures { result ≡ kind_of self }
@@ -82,25 +94,29 @@ impl Lanes {
     }
 }
 
+impl Components {
+    // A scalar of kind Float.
+    pub fn float(x: f32) -> Components
+        ensures { result ≡ float_scalar x }
+    {
+        Components {
+            width: Width::One,
+            lanes: Lanes::Float([x, 0.0, 0.0, 0.0]),
+        }
+    }
+}
+
 // The type of components.
 pub fn shape_of(width: Width, kind: ScalarKind) -> TypeInner
     ensures { result ≡ shape width kind }
 {
-    match width {
-        Width::One => TypeInner::Scalar(kind),
-        Width::Two => TypeInner::Vector {
-            size: VectorSize::Bi,
-            kind,
-        },
-        Width::Three => TypeInner::Vector {
-            size: VectorSize::Tri,
-            kind,
-        },
-        Width::Four => TypeInner::Vector {
-            size: VectorSize::Quad,
-            kind,
-        },
-    }
+    let size = match width {
+        Width::One => return TypeInner::Scalar(kind),
+        Width::Two => VectorSize::Bi,
+        Width::Three => VectorSize::Tri,
+        Width::Four => VectorSize::Quad,
+    };
+    TypeInner::Vector { size, kind }
 }
 
 // A reference is never of a scalar or a vector.

@@ -17,7 +17,8 @@ use Rattle.words.specs.declared.instructions.Instruction.{Instruction}
 use Rattle.words.specs.Opcodes.{row_of, place}
 use Rattle.words.specs.Masks.{has, supports, allows, words_needed, words_below}
 use Rattle.words.specs.Operands.{id_at, grad_at, operand, operands_of}
-use Rattle.words.specs.Instructions.{refuse, check, and_then, count_in, opcode_in, too_few_words, wrong_count, first_word, mask_checks, image_operands, described, instruction}
+use Rattle.records.specs.Refusals.{refuse, check, and_then}
+use Rattle.words.specs.Instructions.{count_in, opcode_in, too_few_words, wrong_count, first_word, mask_checks, image_operands, described, instruction}
 use Rattle.words.specs.Laws.{PastTheCount, OperandsInOrder, FaultsInOrder, Spelled, counted, mask_of, after_mask, first_fault}
 use Rattle.words.proofs.Spells.{spells}
 

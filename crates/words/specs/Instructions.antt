@@ -1,8 +1,9 @@
 -- What the words of one image instruction say, and in which order a fault is looked for.
-use Rattle.std.specs.Prelude.{ℕ, ◌+◌, ◌/◌, ◌%◌, Bool, cond, not, ◌||◌, ltb, List, length, take, drop, Ok, Err, Option, Result, ◌==◌, nat_lt, slice_index}
+use Rattle.std.specs.Prelude.{ℕ, ◌+◌, ◌/◌, ◌%◌, Bool, not, ◌||◌, List, length, take, drop, Ok, Option, Result, ◌==◌, nat_lt, slice_index}
 use Rattle.std.specs.Option.{ok_or}
 use Rattle.records.specs.declared.refusals.Error.{Error}
 use Rattle.records.specs.declared.refusals.Error.TheVariants.{IncompleteData, InvalidOperandCount, UnsupportedInstruction, UnsupportedOperand, InvalidOperand}
+use Rattle.records.specs.Refusals.{refuse, check, and_then}
 use Rattle.words.specs.declared.opcodes.Opcode.{Opcode}
 use Rattle.words.specs.declared.opcodes.Layout.{Layout}
 use Rattle.words.specs.declared.opcodes.Layout.TheVariants.{Couple, Plain, Component, Reference, Write}
@@ -54,19 +55,7 @@ too_few_words ws = length ws == 0 || nat_lt (length ws) (count_in (slice_index w
 
 -- a couple has exactly its words, the others at least theirs
 abbrev pub wrong_count : OpcodeRow → ℕ → Bool
-wrong_count row n = elim row.layout [ Couple ↦ not (n == row.least) | Plain ↦ ltb n row.least | Component ↦ ltb n row.least | Reference ↦ ltb n row.least | Write ↦ ltb n row.least ]
-
-abbrev pub refuse : {X : Type 0} → Bool → Error → Result X Error → Result X Error
-refuse wrong e r = cond wrong (Err e) r
-
--- a check alone
-abbrev pub check : Bool → Error → Result (Unit {0}) Error
-check wrong e = refuse wrong e (Ok tt)
-
--- what follows a check that answers something
-abbrev pub and_then : {X Y : Type 0} → Result X Error → (X → Result Y Error) → Result Y Error
-and_then (Ok x) f = f x
-and_then (Err e) f = Err e
+wrong_count row n = elim row.layout [ Couple ↦ not (n == row.least) | Plain ↦ nat_lt n row.least | Component ↦ nat_lt n row.least | Reference ↦ nat_lt n row.least | Write ↦ nat_lt n row.least ]
 
 -- The checks of a mask and the words after it, in their order.
 abbrev pub mask_checks : Opcode → ℕ → List ℕ → Result (Unit {0}) Error

@@ -1,15 +1,14 @@
 // One image instruction, read from its words.
-ghost use Rattle.std.specs.Prelude.{◌≡◌, ◌≤◌, not, length, drop, Ok, ◌==◌, slice_index};
-ghost use Rattle.std.specs.Option.{ok_or};
-ghost use Rattle.records.specs.declared.refusals.Error.TheVariants.{IncompleteData, InvalidOperandCount, UnsupportedInstruction, UnsupportedOperand, InvalidOperand};
-ghost use Rattle.words.specs.Masks.{supports, allows, words_needed};
-ghost use Rattle.words.specs.Opcodes.{mask_place, numbered, place, row_of};
-ghost use Rattle.words.specs.Instructions.{check, first_word, wrong_count, of_result, ids_of, mask_checks, image_operands, instruction};
+ghost use Rattle.std.specs.Prelude.{◌≡◌, ◌≤◌, length, drop, slice_index};
+ghost use Rattle.records.specs.declared.refusals.Error.TheVariants.{InvalidOperandCount};
+ghost use Rattle.records.specs.Refusals.{check};
+ghost use Rattle.words.specs.Opcodes.{mask_place, place, row_of};
+ghost use Rattle.words.specs.Instructions.{first_word, wrong_count, of_result, ids_of, mask_checks, image_operands, instruction};
 
 use crate::masks::mask_words;
 use crate::opcodes::{Layout, Opcode};
 use crate::operands::{IdRef, ImageOperands, take_operands};
-use records::Error;
+use records::{Error, expect};
 
 // The fixed ids by name. One that the opcode does not have is `IdRef::NONE`.
 #[derive(Clone, Copy)]
@@ -46,55 +45,15 @@ fn first_word(words: &[u32]) -> Result<u32, Error>
 }
 
 impl Opcode {
-    fn expect_listed(number: u32) -> Result<Opcode, Error>
-        ensures { result ≡ ok_or (numbered number) UnsupportedInstruction }
-    {
-        Opcode::from_number(number).ok_or(Error::UnsupportedInstruction)
-    }
-
     fn expect_count(self, count: usize) -> Result<(), Error>
         ensures { result ≡ check (wrong_count (row_of self) count) InvalidOperandCount }
     {
         let row = self.row();
-        let wrong = match row.layout {
-            Layout::Couple => count != row.least,
-            _ => count < row.least,
+        let right = match row.layout {
+            Layout::Couple => count == row.least,
+            _ => row.least <= count,
         };
-        if wrong {
-            Err(Error::InvalidOperandCount)
-        } else {
-            Ok(())
-        }
-    }
-
-    fn expect_supported(self, mask: u32) -> Result<(), Error>
-        ensures { result ≡ check (not (supports (row_of self).rule mask)) (UnsupportedOperand (place self)) }
-    {
-        if self.row().rule.supports(mask) {
-            Ok(())
-        } else {
-            Err(Error::UnsupportedOperand(self.mask_place()))
-        }
-    }
-
-    fn expect_allowed(self, mask: u32) -> Result<(), Error>
-        ensures { result ≡ check (not (allows (row_of self).rule mask)) (InvalidOperand (place self)) }
-    {
-        if self.row().rule.allows(mask) {
-            Ok(())
-        } else {
-            Err(Error::InvalidOperand(self.mask_place()))
-        }
-    }
-}
-
-fn expect_words(mask: u32, operands: &[u32]) -> Result<(), Error>
-    ensures { result ≡ check (not (length operands.now == words_needed mask)) InvalidOperandCount }
-{
-    if operands.len() == mask_words(mask) {
-        Ok(())
-    } else {
-        Err(Error::InvalidOperandCount)
+        expect(right, Error::InvalidOperandCount)
     }
 }
 
@@ -114,18 +73,10 @@ impl Ids {
     fn of_result(result_type: u32, res: u32, image: u32) -> Ids
         ensures { result ≡ of_result result_type res image }
     {
-        let result_type = IdRef {
-            id: result_type,
-            place: 1,
-        };
-        let res = IdRef { id: res, place: 2 };
         Ids {
-            result_type,
-            result: res,
-            image: IdRef {
-                id: image,
-                place: 3,
-            },
+            result_type: IdRef::new(result_type, 1),
+            result: IdRef::new(res, 2),
+            image: IdRef::new(image, 3),
             ..Ids::NONE
         }
     }
@@ -138,111 +89,44 @@ fn split_by(layout: Layout, words: &[u32]) -> (Ids, &[u32])
     ensures rest { result.1.now ≡ drop (mask_place layout) words.now }
 {
     match (layout, words) {
-        (Layout::Couple, [_, result_type, result, image, sampler, rest @ ..]) => {
-            let ids = Ids::of_result(*result_type, *result, *image);
-            (
-                Ids {
-                    sampler: IdRef {
-                        id: *sampler,
-                        place: 4,
-                    },
-                    ..ids
-                },
-                rest,
-            )
-        }
-        (Layout::Plain, [_, result_type, result, image, coordinate, rest @ ..]) => {
-            let ids = Ids::of_result(*result_type, *result, *image);
-            (
-                Ids {
-                    coordinate: IdRef {
-                        id: *coordinate,
-                        place: 4,
-                    },
-                    ..ids
-                },
-                rest,
-            )
-        }
-        (
-            Layout::Component,
-            [
-                _,
-                result_type,
-                result,
-                image,
-                coordinate,
-                component,
-                rest @ ..,
-            ],
-        ) => {
-            let ids = Ids::of_result(*result_type, *result, *image);
-            let coordinate = IdRef {
-                id: *coordinate,
-                place: 4,
+        (Layout::Couple, [_, ty, res, image, sampler, rest @ ..]) => {
+            let ids = Ids {
+                sampler: IdRef::new(*sampler, 4),
+                ..Ids::of_result(*ty, *res, *image)
             };
-            (
-                Ids {
-                    coordinate,
-                    component: IdRef {
-                        id: *component,
-                        place: 5,
-                    },
-                    ..ids
-                },
-                rest,
-            )
+            (ids, rest)
         }
-        (
-            Layout::Reference,
-            [
-                _,
-                result_type,
-                result,
-                image,
-                coordinate,
-                reference,
-                rest @ ..,
-            ],
-        ) => {
-            let ids = Ids::of_result(*result_type, *result, *image);
-            let coordinate = IdRef {
-                id: *coordinate,
-                place: 4,
+        (Layout::Plain, [_, ty, res, image, coordinate, rest @ ..]) => {
+            let ids = Ids {
+                coordinate: IdRef::new(*coordinate, 4),
+                ..Ids::of_result(*ty, *res, *image)
             };
-            (
-                Ids {
-                    coordinate,
-                    reference: IdRef {
-                        id: *reference,
-                        place: 5,
-                    },
-                    ..ids
-                },
-                rest,
-            )
+            (ids, rest)
+        }
+        (Layout::Component, [_, ty, res, image, coordinate, component, rest @ ..]) => {
+            let ids = Ids {
+                coordinate: IdRef::new(*coordinate, 4),
+                component: IdRef::new(*component, 5),
+                ..Ids::of_result(*ty, *res, *image)
+            };
+            (ids, rest)
+        }
+        (Layout::Reference, [_, ty, res, image, coordinate, reference, rest @ ..]) => {
+            let ids = Ids {
+                coordinate: IdRef::new(*coordinate, 4),
+                reference: IdRef::new(*reference, 5),
+                ..Ids::of_result(*ty, *res, *image)
+            };
+            (ids, rest)
         }
         (Layout::Write, [_, image, coordinate, value, rest @ ..]) => {
-            let image = IdRef {
-                id: *image,
-                place: 1,
+            let ids = Ids {
+                image: IdRef::new(*image, 1),
+                coordinate: IdRef::new(*coordinate, 2),
+                value: IdRef::new(*value, 3),
+                ..Ids::NONE
             };
-            let coordinate = IdRef {
-                id: *coordinate,
-                place: 2,
-            };
-            (
-                Ids {
-                    image,
-                    coordinate,
-                    value: IdRef {
-                        id: *value,
-                        place: 3,
-                    },
-                    ..Ids::NONE
-                },
-                rest,
-            )
+            (ids, rest)
         }
         _ => unreachable(),
     }
@@ -272,9 +156,14 @@ fn split_mask(rest: &[u32]) -> (u32, &[u32])
 fn check_mask(opcode: Opcode, mask: u32, operands: &[u32]) -> Result<(), Error>
     ensures { result ≡ mask_checks opcode mask operands.now }
 {
-    opcode.expect_supported(mask)?;
-    expect_words(mask, operands)?;
-    opcode.expect_allowed(mask)
+    let rule = opcode.row().rule;
+    let place = opcode.mask_place();
+    expect(rule.supports(mask), Error::UnsupportedOperand(place))?;
+    expect(
+        operands.len() == mask_words(mask),
+        Error::InvalidOperandCount,
+    )?;
+    expect(rule.allows(mask), Error::InvalidOperand(place))
 }
 
 // What the words from the mask on say.
@@ -291,7 +180,7 @@ pub fn parse_instruction(words: &[u32]) -> Result<Instruction, Error>
     ensures { result ≡ instruction words.now }
 {
     let first = first_word(words)?;
-    let opcode = Opcode::expect_listed(first % 0x1_0000)?;
+    let opcode = Opcode::try_from(first % 0x1_0000)?;
     let count = (first / 0x1_0000) as usize;
     opcode.expect_count(count)?;
     let (ids, rest) = opcode.split_words(&words[0..count]);

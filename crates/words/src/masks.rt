@@ -4,12 +4,26 @@ ghost use Rattle.words.specs.Masks.{bit, mask_bit, words_at, has, is_sample, per
 
 use crate::opcodes::OperandRule;
 
-// The numbers of the bits that state a level.
-const BIAS: u32 = 0;
+// The bits by their numbers.
+pub(crate) const BIAS: u32 = 0;
 
-const LOD: u32 = 1;
+pub(crate) const LOD: u32 = 1;
 
-const GRAD: u32 = 2;
+pub(crate) const GRAD: u32 = 2;
+
+pub(crate) const CONST_OFFSET: u32 = 3;
+
+pub(crate) const SAMPLE: u32 = 6;
+
+pub(crate) const MAKE_TEXEL_AVAILABLE: u32 = 8;
+
+pub(crate) const MAKE_TEXEL_VISIBLE: u32 = 9;
+
+const NON_PRIVATE_TEXEL: u32 = 10;
+
+const VOLATILE_TEXEL: u32 = 11;
+
+const NONTEMPORAL: u32 = 14;
 
 // Who honours an operand. The words of one that nobody uses are stepped over.
 #[derive(Clone, Copy)]
@@ -38,13 +52,12 @@ pub fn mask_bit(number: u32) -> Option<MaskBit>
     ensures { result ≡ mask_bit number }
 {
     match number {
-        0 => row(1, UsedBy::Samples),
-        1 => row(1, UsedBy::SamplesAndLoads),
-        2 => row(2, UsedBy::Samples),
-        3 => row(1, UsedBy::Samples),
-        6 => row(1, UsedBy::Loads),
-        8 | 9 => row(1, UsedBy::Nobody),
-        10 | 11 | 14 => row(0, UsedBy::Nobody),
+        BIAS | CONST_OFFSET => row(1, UsedBy::Samples),
+        LOD => row(1, UsedBy::SamplesAndLoads),
+        GRAD => row(2, UsedBy::Samples),
+        SAMPLE => row(1, UsedBy::Loads),
+        MAKE_TEXEL_AVAILABLE | MAKE_TEXEL_VISIBLE => row(1, UsedBy::Nobody),
+        NON_PRIVATE_TEXEL | VOLATILE_TEXEL | NONTEMPORAL => row(0, UsedBy::Nobody),
         _ => None,
     }
 }
@@ -53,10 +66,7 @@ pub fn mask_bit(number: u32) -> Option<MaskBit>
 pub fn words_at(number: u32) -> usize
     ensures { result ≡ words_at number }
 {
-    match mask_bit(number) {
-        Some(row) => row.words,
-        None => 0,
-    }
+    mask_bit(number).map_or(0, |row| row.words)
 }
 
 // Whether a mask has a bit, by its number.
@@ -86,10 +96,10 @@ impl OperandRule {
     pub fn is_sample(self) -> bool
         ensures { result ≡ is_sample self }
     {
-        match self {
-            OperandRule::Implicit | OperandRule::Explicit | OperandRule::Gather => true,
-            OperandRule::Never | OperandRule::Load | OperandRule::Store => false,
-        }
+        matches!(
+            self,
+            OperandRule::Implicit | OperandRule::Explicit | OperandRule::Gather
+        )
     }
 
     // Whether an instruction of this rule honours the operand of a bit, or steps over it.

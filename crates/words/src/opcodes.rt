@@ -1,12 +1,15 @@
 // The fourteen opcodes, and what the words of each look like.
 ghost use Rattle.std.specs.Prelude.{◌≡◌};
+ghost use Rattle.std.specs.Option.{ok_or};
+ghost use Rattle.records.specs.declared.refusals.Error.TheVariants.{UnsupportedInstruction};
 ghost use Rattle.words.specs.Opcodes.{opcode_row, row_of, numbered, place};
 
 use self::Layout::{Component, Couple, Plain, Reference, Write};
 use self::OperandRule::{Explicit, Gather, Implicit, Load, Never, Store};
+use records::Error;
 
 // By SPIR-V's names, without their "Op".
-#[derive(Clone, Copy)]
+#[derive(Clone, Copy, Debug)]
 pub enum Opcode {
     SampledImage,
     ImageSampleImplicitLod,
@@ -96,29 +99,6 @@ impl Opcode {
         }
     }
 
-    // The opcode with this number, if it is one of the fourteen.
-    pub fn from_number(number: u32) -> Option<Opcode>
-        ensures { result ≡ numbered number }
-    {
-        match number {
-            86 => Some(Opcode::SampledImage),
-            87 => Some(Opcode::ImageSampleImplicitLod),
-            88 => Some(Opcode::ImageSampleExplicitLod),
-            89 => Some(Opcode::ImageSampleDrefImplicitLod),
-            90 => Some(Opcode::ImageSampleDrefExplicitLod),
-            91 => Some(Opcode::ImageSampleProjImplicitLod),
-            92 => Some(Opcode::ImageSampleProjExplicitLod),
-            93 => Some(Opcode::ImageSampleProjDrefImplicitLod),
-            94 => Some(Opcode::ImageSampleProjDrefExplicitLod),
-            95 => Some(Opcode::ImageFetch),
-            96 => Some(Opcode::ImageGather),
-            97 => Some(Opcode::ImageDrefGather),
-            98 => Some(Opcode::ImageRead),
-            99 => Some(Opcode::ImageWrite),
-            _ => None,
-        }
-    }
-
     // Where the mask stands, if there is one: right after the fixed words.
     pub fn mask_place(self) -> usize
         ensures { result ≡ place self }
@@ -127,6 +107,33 @@ impl Opcode {
             Layout::Write => 4,
             Layout::Couple | Layout::Plain => 5,
             Layout::Component | Layout::Reference => 6,
+        }
+    }
+}
+
+// The opcode with this number, if it is one of the fourteen.
+impl TryFrom<u32> for Opcode {
+    type Error = Error;
+
+    ghost try_from_gives = { λ number r. r ≡ ok_or (numbered number) UnsupportedInstruction };
+
+    fn try_from(number: u32) -> Result<Opcode, Error> {
+        match number {
+            86 => Ok(Opcode::SampledImage),
+            87 => Ok(Opcode::ImageSampleImplicitLod),
+            88 => Ok(Opcode::ImageSampleExplicitLod),
+            89 => Ok(Opcode::ImageSampleDrefImplicitLod),
+            90 => Ok(Opcode::ImageSampleDrefExplicitLod),
+            91 => Ok(Opcode::ImageSampleProjImplicitLod),
+            92 => Ok(Opcode::ImageSampleProjExplicitLod),
+            93 => Ok(Opcode::ImageSampleProjDrefImplicitLod),
+            94 => Ok(Opcode::ImageSampleProjDrefExplicitLod),
+            95 => Ok(Opcode::ImageFetch),
+            96 => Ok(Opcode::ImageGather),
+            97 => Ok(Opcode::ImageDrefGather),
+            98 => Ok(Opcode::ImageRead),
+            99 => Ok(Opcode::ImageWrite),
+            _ => Err(Error::UnsupportedInstruction),
         }
     }
 }

@@ -3,7 +3,9 @@ ghost use Rattle.std.specs.Prelude.{◌≡◌, ◌+◌, ◌≤◌, length};
 ghost use Rattle.words.specs.Masks.{words_at, words_needed};
 ghost use Rattle.words.specs.Operands.{id_at, no_operands, taken, operands_of};
 
-use crate::masks::words_at;
+use crate::masks::{
+    BIAS, CONST_OFFSET, GRAD, LOD, MAKE_TEXEL_AVAILABLE, MAKE_TEXEL_VISIBLE, SAMPLE, words_at,
+};
 
 // An id, and the place of the word that holds it: what a refusal blames.
 #[derive(Clone, Copy)]
@@ -15,6 +17,13 @@ pub struct IdRef {
 impl IdRef {
     // Stands for an id that the instruction does not have.
     pub const NONE: IdRef = IdRef { id: 0, place: 0 };
+
+    pub(crate) fn new(id: u32, place: usize) -> IdRef
+        ensures id { result.id ≡ id }
+        ensures place { result.place ≡ place }
+    {
+        IdRef { id, place }
+    }
 }
 
 // The two operands of Grad.
@@ -42,10 +51,7 @@ fn id_at(words: &[u32], first: usize, next: usize) -> IdRef
     requires { (next + 1 ≤ length words.now) × (first ≤ 7) }
     ensures { result ≡ id_at words.now first next }
 {
-    IdRef {
-        id: words[next],
-        place: first + next,
-    }
+    IdRef::new(words[next], first + next)
 }
 
 impl ImageOperands {
@@ -70,15 +76,15 @@ impl ImageOperands {
         ensures { result ≡ taken bit words.now first next self }
     {
         match bit {
-            0 => ImageOperands {
+            BIAS => ImageOperands {
                 bias: Some(id_at(words, first, next)),
                 ..self
             },
-            1 => ImageOperands {
+            LOD => ImageOperands {
                 lod: Some(id_at(words, first, next)),
                 ..self
             },
-            2 => {
+            GRAD => {
                 let x = id_at(words, first, next);
                 let y = id_at(words, first, next + 1);
                 ImageOperands {
@@ -86,19 +92,19 @@ impl ImageOperands {
                     ..self
                 }
             }
-            3 => ImageOperands {
+            CONST_OFFSET => ImageOperands {
                 const_offset: Some(id_at(words, first, next)),
                 ..self
             },
-            6 => ImageOperands {
+            SAMPLE => ImageOperands {
                 sample: Some(id_at(words, first, next)),
                 ..self
             },
-            8 => ImageOperands {
+            MAKE_TEXEL_AVAILABLE => ImageOperands {
                 make_texel_available: Some(id_at(words, first, next)),
                 ..self
             },
-            9 => ImageOperands {
+            MAKE_TEXEL_VISIBLE => ImageOperands {
                 make_texel_visible: Some(id_at(words, first, next)),
                 ..self
             },

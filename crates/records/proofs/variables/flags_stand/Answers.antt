@@ -1,5 +1,0 @@
-use Rattle.records.proofs.Bits.{flags_kept}
-use Rattle.records.proofs.variables.flags_stand.Goals as goal
-
-pub returns : goal.returns
-returns c = flags_kept
