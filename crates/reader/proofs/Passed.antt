@@ -2,7 +2,7 @@
 use Rattle.std.proofs.Common.{◌≡◌, ℕ, ◌+◌, ◌≤◌, min, Bool, true, false, not, ◌&&◌, length, is_ok, Ok, Err, Result, refl, ap, arith}
 use Rattle.std.proofs.lemmas.Bool.{false≢true, leb-true}
 use Rattle.records.specs.declared.refusals.Error.{Error}
-use Rattle.words.specs.Instructions.{and_then, check}
+use Rattle.records.specs.Refusals.{and_then, check}
 use Rattle.memory.specs.Cells.{Filled, room_for}
 use Rattle.reader.specs.Rooms.{RoomIn}
 

@@ -2,7 +2,8 @@
 use Rattle.std.proofs.Common.{◌≡◌, ℕ, ◌+◌, true, not, ◌&&◌, List, Ok, Option, subst}
 use Rattle.records.specs.declared.refusals.Error.TheVariants.{InvalidResultId, Full, Mismatch}
 use Rattle.books.specs.Books.{taken}
-use Rattle.words.specs.Instructions.{check, instruction}
+use Rattle.records.specs.Refusals.{check}
+use Rattle.words.specs.Instructions.{instruction}
 use Rattle.words.specs.Opcodes.{row_of}
 use Rattle.words.specs.declared.instructions.Instruction.{Instruction}
 use Rattle.words.specs.declared.opcodes.OperandRule.{OperandRule}

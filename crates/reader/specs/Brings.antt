@@ -11,7 +11,7 @@ use Rattle.records.specs.declared.types.TypeInner.{TypeInner}
 use Rattle.records.specs.declared.types.TypeInner.TheVariants.{Scalar}
 use Rattle.run.specs.Rules.{is_int}
 use Rattle.images.specs.Rules.{array_base}
-use Rattle.words.specs.Instructions.{and_then, check}
+use Rattle.records.specs.Refusals.{and_then, check}
 use Rattle.reader.specs.declared.bring.Element.{Element}
 use Rattle.memory.specs.Shelves.{Shelf}
 use Rattle.memory.specs.Cells.{used, Cells}

@@ -1,15 +1,16 @@
 -- The calls of a reader at rest: what each checks, in order, and what it leaves and answers.
 use Rattle.std.specs.Prelude.{ℕ, Bool, true, not, ◌&&◌, List, Some, None, Ok, Option, Result}
 use Rattle.records.specs.Expressions.{global_variable, function_argument, constant_of}
+use Rattle.records.specs.Flags.{no_flags}
 use Rattle.records.specs.declared.constants.Literal.{Literal}
 use Rattle.records.specs.declared.handles.TypeHandle.{TypeHandle}
 use Rattle.records.specs.declared.lookups.LookupExpression.{LookupExpression}
 use Rattle.records.specs.declared.refusals.Error.{Error}
 use Rattle.records.specs.declared.refusals.Error.TheVariants.{InvalidResultId, InvalidType, Full, Mismatch}
 use Rattle.records.specs.declared.types.TypeInner.{TypeInner}
-use Rattle.run.specs.Types.{same_type}
+use Rattle.records.specs.Types.{same_type}
 use Rattle.run.specs.Rules.{literal_type}
-use Rattle.words.specs.Instructions.{and_then, check}
+use Rattle.records.specs.Refusals.{and_then, check}
 use Rattle.reader.specs.declared.types.TypeDeclaration.{TypeDeclaration}
 use Rattle.reader.specs.declared.declare.TypePlan.{TypePlan}
 use Rattle.memory.specs.Shelves.{Shelf}
@@ -64,7 +65,7 @@ variable_checks c b id ty = value_checks None c b id (resource_for (used c.types
 abbrev pub declares_variable : State → ℕ → ℕ → Step LookupExpression
 declares_variable s id ty =
     by_checks s (variable_checks s.cells s.books id ty) (λ h.
-    named s id (push_variable s.cells (record { ty = h; flags = 0 })) (global_variable (record { index = s.cells.variables.count })) h)
+    named s id (push_variable s.cells (record { ty = h; flags = no_flags })) (global_variable (record { index = s.cells.variables.count })) h)
 
 abbrev pub argument_checks : Cells → Shelf → ℕ → ℕ → Result TypeHandle Error
 argument_checks c b id ty = value_checks None c b id (resource_for (used c.types) b ty) (room_for 1 c.arguments max_arguments)
@@ -72,7 +73,7 @@ argument_checks c b id ty = value_checks None c b id (resource_for (used c.types
 abbrev pub declares_argument : State → ℕ → ℕ → Step LookupExpression
 declares_argument s id ty =
     by_checks s (argument_checks s.cells s.books id ty) (λ h.
-    named s id (push_argument s.cells (record { ty = h; flags = 0 })) (function_argument (record { index = s.cells.arguments.count })) h)
+    named s id (push_argument s.cells (record { ty = h; flags = no_flags })) (function_argument (record { index = s.cells.arguments.count })) h)
 
 -- the type of a constant: the scalar of its literal
 abbrev pub literal_for : List TypeInner → Shelf → ℕ → Literal → Result TypeHandle Error

@@ -1,7 +1,8 @@
 -- Reading one instruction: its words, its checks in order, and what it leaves and answers.
 use Rattle.std.specs.Prelude.{ℕ, ◌+◌, Bool, not, ◌&&◌, List, Some, None, Ok, Option, Result, nat_lt}
-use Rattle.records.specs.Flags.{inserted}
+use Rattle.records.specs.Flags.{union}
 use Rattle.records.specs.declared.expressions.Expression.{Expression}
+use Rattle.records.specs.declared.flags.SamplingFlags.{SamplingFlags}
 use Rattle.records.specs.declared.lookups.LookupExpression.{LookupExpression}
 use Rattle.records.specs.declared.refusals.Error.{Error}
 use Rattle.records.specs.declared.refusals.Error.TheVariants.{Full, Mismatch}
@@ -12,7 +13,8 @@ use Rattle.records.specs.declared.variables.GlobalVariable.{GlobalVariable}
 use Rattle.records.specs.declared.variables.FunctionArgument.{FunctionArgument}
 use Rattle.units.specs.declared.values.Root.{Root}
 use Rattle.units.specs.declared.values.Root.TheVariants.{Variable, Argument}
-use Rattle.words.specs.Instructions.{and_then, check, instruction}
+use Rattle.records.specs.Refusals.{and_then, check}
+use Rattle.words.specs.Instructions.{instruction}
 use Rattle.memory.specs.Cells.{room_for, Cells}
 use Rattle.memory.specs.Lookups.{has_space}
 use Rattle.memory.specs.Shelves.{Shelf}
@@ -75,13 +77,13 @@ appended c es n = record {
 
 -- A flag goes to a variable or an argument.
 
-abbrev pub variable_with : ℕ → GlobalVariable → GlobalVariable
-variable_with flag v = record { ty = v.ty; flags = inserted v.flags flag }
+abbrev pub variable_with : SamplingFlags → GlobalVariable → GlobalVariable
+variable_with flag v = record { ty = v.ty; flags = union v.flags flag }
 
-abbrev pub argument_with : ℕ → FunctionArgument → FunctionArgument
-argument_with flag a = record { ty = a.ty; flags = inserted a.flags flag }
+abbrev pub argument_with : SamplingFlags → FunctionArgument → FunctionArgument
+argument_with flag a = record { ty = a.ty; flags = union a.flags flag }
 
-abbrev pub flagged : Cells → ℕ → Root → Cells
+abbrev pub flagged : Cells → SamplingFlags → Root → Cells
 flagged c flag (Variable h) = record {
   brought = c.brought;
   types = c.types;

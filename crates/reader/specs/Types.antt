@@ -1,26 +1,21 @@
 -- Declaring types: which may be declared, and the search for an equal one.
-use Rattle.std.specs.Prelude.{ℕ, Bool, true, false, cond, not, List, Some, None, Ok, Option, Result, ◌==◌}
+use Rattle.std.specs.Prelude.{ℕ, Bool, true, false, not, List, Ok, Result}
 use Rattle.std.specs.Option.{ok_or}
 use Rattle.records.specs.declared.handles.TypeHandle.{TypeHandle}
+use Rattle.records.specs.Numbers.{size_numbered}
 use Rattle.records.specs.declared.refusals.Error.{Error}
 use Rattle.records.specs.declared.refusals.Error.TheVariants.{InvalidType}
 use Rattle.records.specs.declared.types.ScalarKind.{ScalarKind}
 use Rattle.records.specs.declared.types.ScalarKind.TheVariants.{Sint, Uint, Float, Bool as BoolKind}
-use Rattle.records.specs.declared.types.VectorSize.{VectorSize}
-use Rattle.records.specs.declared.types.VectorSize.TheVariants.{Bi, Tri, Quad}
 use Rattle.records.specs.declared.types.ImageClass.{ImageClass}
 use Rattle.records.specs.declared.types.ImageClass.TheVariants.{Sampled, Depth, Storage}
 use Rattle.records.specs.declared.types.TypeInner.{TypeInner}
 use Rattle.records.specs.declared.types.TypeInner.TheVariants.{Scalar, Vector, Image, Sampler, BindingArray}
-use Rattle.words.specs.Instructions.{and_then, check}
+use Rattle.records.specs.Refusals.{and_then, check}
 use Rattle.reader.specs.declared.types.TypeDeclaration.{TypeDeclaration}
 use Rattle.reader.specs.declared.types.TypeDeclaration.TheVariants as declared
 use Rattle.memory.specs.Shelves.{Shelf}
 use Rattle.memory.specs.Lookups.{type_for}
-
--- a vector has 2 to 4 components
-abbrev pub size_numbered : ℕ → Option VectorSize
-size_numbered n = cond (n == 2) (Some Bi) (cond (n == 3) (Some Tri) (cond (n == 4) (Some Quad) None))
 
 abbrev pub is_bool : ScalarKind → Bool
 is_bool Sint = false

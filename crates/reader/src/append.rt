@@ -3,20 +3,13 @@ ghost use Rattle.std.specs.Prelude.{◌≡◌, ◌+◌, ◌<◌, min, not, true,
 ghost use Rattle.books.specs.Books.{taken};
 ghost use Rattle.memory.specs.Cells.{cells_of};
 ghost use Rattle.memory.specs.Lookups.{has_space};
-ghost use Rattle.words.specs.Instructions.{check};
 ghost use Rattle.reader.specs.Checks.{max_expressions};
 ghost use Rattle.reader.specs.Rooms.{RoomIn};
 ghost use Rattle.reader.specs.Updates.{push_expression, put_value, lookup_at};
 
 use memory::{Counts, IdBooks, Lists, has_room};
-use records::{Error, Expression, ExpressionHandle, LookupExpression, TypeHandle};
+use records::{Expression, ExpressionHandle, LookupExpression, TypeHandle};
 use words::IdRef;
-
-pub(crate) fn expect(holds: bool, error: Error) -> Result<(), Error>
-    ensures { result ≡ check (not holds) error }
-{
-    if holds { Ok(()) } else { Err(error) }
-}
 
 // The id of a call that has no words: it blames place 0.
 pub(crate) fn unplaced(id: u32) -> IdRef

@@ -3,12 +3,12 @@ ghost use Rattle.std.specs.Prelude.{◌≡◌, length};
 ghost use Rattle.reader.specs.States.{reading};
 ghost use Rattle.reader.specs.Brings.{number_for, brings_value, element_for, brings_element};
 
-use crate::append::{append_value, expect, unplaced};
+use crate::append::{append_value, unplaced};
 use crate::states::{ReaderState, Reading};
 use crate::types::is_resource;
 use images::array_base;
 use memory::{BlockContext, IdBooks, Lists};
-use records::{Error, Expression, ExpressionHandle, LookupExpression, TypeHandle};
+use records::{Error, Expression, ExpressionHandle, LookupExpression, TypeHandle, expect};
 use run::is_integer_scalar;
 
 // An element of a binding array: the expressions of its base and its index, and its type.

@@ -7,16 +7,16 @@ ghost use Rattle.reader.specs.Checks.{max_types};
 ghost use Rattle.reader.specs.Fits.{TypeFits};
 ghost use Rattle.reader.specs.Rooms.{RoomIn};
 
-use crate::append::{append_value, expect, fits, push, unplaced};
+use crate::append::{append_value, fits, push, unplaced};
 use crate::states::{AtRest, ReaderState};
 use crate::types::{TypeDeclaration, declared_inner, find_resource};
 use memory::{BlockContext, IdBooks, Lists, has_space};
 use records::{
     Constant, ConstantHandle, Error, Expression, FunctionArgument, FunctionArgumentHandle,
     GlobalVariable, GlobalVariableHandle, Literal, LookupExpression, LookupType, MAX_ARGUMENTS,
-    MAX_CONSTANTS, MAX_TYPES, MAX_VARIABLES, TypeHandle, TypeInner,
+    MAX_CONSTANTS, MAX_TYPES, MAX_VARIABLES, SamplingFlags, TypeHandle, TypeInner, expect,
 };
-use run::{literal_type, same_type};
+use run::literal_type;
 
 // A type to be declared, and the number of an equal one, if there is one.
 #[derive(Clone, Copy)]
@@ -34,10 +34,8 @@ fn find_scalar<B: IdBooks>(
     ensures { result ≡ literal_for ctx.now.lists.types.now (B.shelf ctx.now.books.now) id literal }
 {
     let found = ctx.find_type(unplaced(id))?;
-    expect(
-        same_type(found.inner, literal_type(literal)),
-        Error::InvalidType(0),
-    )?;
+    let right = found.inner == literal_type(literal);
+    expect(right, Error::InvalidType(0))?;
     Ok(found.handle)
 }
 
@@ -113,7 +111,10 @@ impl AtRest {
         let found = find_resource(&ctx, ty);
         let room = fits(counts.variables, 1, lists.variables.len(), MAX_VARIABLES);
         let ty = self.expect_value(lists, books, id, found, room)?;
-        let variable = GlobalVariable { ty, flags: 0 };
+        let variable = GlobalVariable {
+            ty,
+            flags: SamplingFlags::EMPTY,
+        };
         let index = push(lists.variables, &mut self.counts.variables, variable);
         let expression = Expression::global_variable(GlobalVariableHandle { index });
         Ok(append_value(&mut self.counts, lists, books, id, expression, ty))
@@ -137,7 +138,10 @@ impl AtRest {
         let found = find_resource(&ctx, ty);
         let room = fits(counts.arguments, 1, lists.arguments.len(), MAX_ARGUMENTS);
         let ty = self.expect_value(lists, books, id, found, room)?;
-        let argument = FunctionArgument { ty, flags: 0 };
+        let argument = FunctionArgument {
+            ty,
+            flags: SamplingFlags::EMPTY,
+        };
         let index = push(lists.arguments, &mut self.counts.arguments, argument);
         let expression = Expression::function_argument(FunctionArgumentHandle { index });
         Ok(append_value(&mut self.counts, lists, books, id, expression, ty))

@@ -5,7 +5,7 @@ ghost use Rattle.memory.specs.declared.lists.Counts.{Counts};
 ghost use Rattle.reader.specs.Reads.{flagged};
 
 use memory::Lists;
-use records::{FunctionArgument, GlobalVariable, insert_flag};
+use records::{FunctionArgument, GlobalVariable, SamplingFlags};
 use units::Root;
 
 // Changes the record with a number, if there is one.
@@ -19,7 +19,7 @@ fn change<T: Copy, F: FnOnce(T) -> T>(records: &mut [T], index: u32, f: F)
     }
 }
 
-pub(crate) fn mark(lists: &mut Lists<'_>, root: Root, flag: u32)
+pub(crate) fn mark(lists: &mut Lists<'_>, root: Root, flag: SamplingFlags)
     ensures { (counts : Counts) → cells_of counts lists.new ≡ flagged (cells_of counts lists.old) flag root }
 {
     match root {
@@ -27,7 +27,7 @@ pub(crate) fn mark(lists: &mut Lists<'_>, root: Root, flag: u32)
             lists.variables,
             variable.index,
             |v: GlobalVariable| GlobalVariable {
-                flags: insert_flag(v.flags, flag),
+                flags: v.flags.union(flag),
                 ..v
             },
         ),
@@ -35,7 +35,7 @@ pub(crate) fn mark(lists: &mut Lists<'_>, root: Root, flag: u32)
             lists.arguments,
             argument.index,
             |a: FunctionArgument| FunctionArgument {
-                flags: insert_flag(a.flags, flag),
+                flags: a.flags.union(flag),
                 ..a
             },
         ),

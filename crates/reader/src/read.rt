@@ -6,11 +6,13 @@ ghost use Rattle.reader.specs.Fits.{PlanFits};
 ghost use Rattle.reader.specs.States.{reading};
 ghost use Rattle.reader.specs.Reads.{plan_room, read_checks, store_cells, store_room, reads};
 
-use crate::append::{expect, fits};
+use crate::append::fits;
 use crate::states::{ReaderState, Reading};
 use images::{Plan, StorePlan, parse_image_instruction};
 use memory::{BlockContext, IdBooks, Lists, has_space};
-use records::{Error, LookupExpression, LookupSampledImage, MAX_EXPRESSIONS, MAX_STATEMENTS};
+use records::{
+    Error, LookupExpression, LookupSampledImage, MAX_EXPRESSIONS, MAX_STATEMENTS, expect,
+};
 use words::parse_instruction;
 
 // What an accepted instruction made.

@@ -1,15 +1,15 @@
 // The reader's two states. Each is moved by its calls, so that a call in the wrong state does not compile.
 ghost use Rattle.std.specs.Prelude.{◌≡◌, ℕ, not, Some, None, Option, IfOk};
 ghost use Rattle.records.specs.declared.refusals.Error.TheVariants.{Mismatch};
-ghost use Rattle.words.specs.Instructions.{check};
+ghost use Rattle.records.specs.Refusals.{check};
 ghost use Rattle.memory.specs.Cells.{cells_of};
 ghost use Rattle.memory.specs.declared.lists.Counts.{Counts as Numbers};
 ghost use Rattle.reader.specs.Checks.{state_inside, value_checks};
 ghost use Rattle.reader.specs.Fits.{ValueFits};
 
-use crate::append::{expect, fits, unplaced};
+use crate::append::{fits, unplaced};
 use memory::{Counts, IdBooks, Lists, has_space};
-use records::{Error, MAX_EXPRESSIONS, MAX_STATEMENTS};
+use records::{Error, MAX_EXPRESSIONS, MAX_STATEMENTS, expect};
 
 // Where the open emit range begins: the first expression that no statement covers yet.
 #[derive(Drop)]

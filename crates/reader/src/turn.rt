@@ -5,11 +5,11 @@ ghost use Rattle.memory.specs.Cells.{cells_of};
 ghost use Rattle.reader.specs.States.{at_rest, reading};
 ghost use Rattle.reader.specs.Turns.{set_up, start_checks, starts, after_start, emit, finishes, after_finish};
 
-use crate::append::{expect, fits};
+use crate::append::fits;
 use crate::states::{AtRest, Emitter, ReaderState, Reading};
 use books::is_empty;
 use memory::{Counts, IdBooks, Lists};
-use records::{EmitRange, Error, MAX_STATEMENTS, Statement};
+use records::{EmitRange, Error, MAX_STATEMENTS, Statement, expect};
 
 const NO_COUNTS: Counts = Counts {
     types: 0,

@@ -1,10 +1,12 @@
 // Which types may be declared, and the search for an equal one.
 ghost use Rattle.std.specs.Prelude.{◌≡◌, not, None};
-ghost use Rattle.reader.specs.Types.{size_numbered, is_bool, class_fits, is_resource, inner_of, resource_for};
+ghost use Rattle.reader.specs.Types.{is_bool, class_fits, is_resource, inner_of, resource_for};
 
-use crate::append::{expect, unplaced};
+use crate::append::unplaced;
 use memory::{BlockContext, IdBooks};
-use records::{Error, ImageClass, ImageDimension, ScalarKind, TypeHandle, TypeInner, VectorSize};
+use records::{
+    Error, ImageClass, ImageDimension, ScalarKind, TypeHandle, TypeInner, VectorSize, expect,
+};
 
 // A type as it is declared: the size of a vector is a number, and the base of a binding array an id.
 #[derive(Clone, Copy)]
@@ -23,17 +25,6 @@ pub enum TypeDeclaration {
     BindingArray {
         base: u32,
     },
-}
-
-fn size_numbered(number: u32) -> Option<VectorSize>
-    ensures { result ≡ size_numbered number }
-{
-    match number {
-        2 => Some(VectorSize::Bi),
-        3 => Some(VectorSize::Tri),
-        4 => Some(VectorSize::Quad),
-        _ => None,
-    }
 }
 
 fn is_bool(kind: ScalarKind) -> bool
@@ -80,7 +71,7 @@ pub(crate) fn declared_inner<B: IdBooks>(
     match declaration {
         TypeDeclaration::Scalar(kind) => Ok(TypeInner::Scalar(kind)),
         TypeDeclaration::Vector { size, kind } => {
-            let size = size_numbered(size).ok_or(Error::InvalidType(0))?;
+            let size = VectorSize::try_from(size).map_err(|_| Error::InvalidType(0))?;
             Ok(TypeInner::Vector { size, kind })
         }
         TypeDeclaration::Image {
