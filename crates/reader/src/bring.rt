@@ -61,12 +61,7 @@ impl Reading {
         ensures state { reading self.new lists.new (B.shelf books.new) ≡ (brings_value (reading self.old lists.old (B.shelf books.old)) id ty).state }
         ensures answer { result ≡ (brings_value (reading self.old lists.old (B.shelf books.old)) id ty).answer }
     {
-        let counts = self.counts();
-        let ctx = BlockContext {
-            lists: counts.used(lists),
-            books: &*books,
-        };
-        let found = find_number(&ctx, ty);
+        let found = find_number(&self.context(lists, books), ty);
         let ty = self.expect_value(lists, books, id, found, true)?;
         let expression = Expression::supplied(ty, self.counts.brought);
         self.counts.brought += 1;
@@ -84,12 +79,7 @@ impl Reading {
         ensures state { reading self.new lists.new (B.shelf books.new) ≡ (brings_element (reading self.old lists.old (B.shelf books.old)) id base index).state }
         ensures answer { result ≡ (brings_element (reading self.old lists.old (B.shelf books.old)) id base index).answer }
     {
-        let counts = self.counts();
-        let ctx = BlockContext {
-            lists: counts.used(lists),
-            books: &*books,
-        };
-        let found = find_element(&ctx, base, index);
+        let found = find_element(&self.context(lists, books), base, index);
         let element = self.expect_value(lists, books, id, found, true)?;
         let expression = Expression::access(element.base, element.index);
         Ok(append_value(&mut self.counts, lists, books, id, expression, element.ty))

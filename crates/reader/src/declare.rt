@@ -52,14 +52,10 @@ impl AtRest {
     {
         self.expect_inside(lists)?;
         expect(books.is_new_type(id), Error::InvalidResultId(0))?;
-        let counts = self.counts();
-        let ctx = BlockContext {
-            lists: counts.used(lists),
-            books,
-        };
+        let ctx = self.context(lists, books);
         let inner = declared_inner(&ctx, declaration)?;
         let found = ctx.first_equal(inner);
-        let room = found.is_some() || fits(counts.types, 1, lists.types.len(), MAX_TYPES);
+        let room = found.is_some() || fits(self.counts.types, 1, lists.types.len(), MAX_TYPES);
         expect(room && has_space(books.types()), Error::Full)?;
         Ok(TypePlan { inner, found })
     }
@@ -103,13 +99,13 @@ impl AtRest {
         ensures state { at_rest self.new lists.new (B.shelf books.new) ≡ (declares_variable (at_rest self.old lists.old (B.shelf books.old)) id ty).state }
         ensures answer { result ≡ (declares_variable (at_rest self.old lists.old (B.shelf books.old)) id ty).answer }
     {
-        let counts = self.counts();
-        let ctx = BlockContext {
-            lists: counts.used(lists),
-            books: &*books,
-        };
-        let found = find_resource(&ctx, ty);
-        let room = fits(counts.variables, 1, lists.variables.len(), MAX_VARIABLES);
+        let found = find_resource(&self.context(lists, books), ty);
+        let room = fits(
+            self.counts.variables,
+            1,
+            lists.variables.len(),
+            MAX_VARIABLES,
+        );
         let ty = self.expect_value(lists, books, id, found, room)?;
         let variable = GlobalVariable {
             ty,
@@ -130,13 +126,13 @@ impl AtRest {
         ensures state { at_rest self.new lists.new (B.shelf books.new) ≡ (declares_argument (at_rest self.old lists.old (B.shelf books.old)) id ty).state }
         ensures answer { result ≡ (declares_argument (at_rest self.old lists.old (B.shelf books.old)) id ty).answer }
     {
-        let counts = self.counts();
-        let ctx = BlockContext {
-            lists: counts.used(lists),
-            books: &*books,
-        };
-        let found = find_resource(&ctx, ty);
-        let room = fits(counts.arguments, 1, lists.arguments.len(), MAX_ARGUMENTS);
+        let found = find_resource(&self.context(lists, books), ty);
+        let room = fits(
+            self.counts.arguments,
+            1,
+            lists.arguments.len(),
+            MAX_ARGUMENTS,
+        );
         let ty = self.expect_value(lists, books, id, found, room)?;
         let argument = FunctionArgument {
             ty,
@@ -158,13 +154,13 @@ impl AtRest {
         ensures state { at_rest self.new lists.new (B.shelf books.new) ≡ (declares_constant (at_rest self.old lists.old (B.shelf books.old)) id ty literal).state }
         ensures answer { result ≡ (declares_constant (at_rest self.old lists.old (B.shelf books.old)) id ty literal).answer }
     {
-        let counts = self.counts();
-        let ctx = BlockContext {
-            lists: counts.used(lists),
-            books: &*books,
-        };
-        let found = find_scalar(&ctx, ty, literal);
-        let room = fits(counts.constants, 1, lists.constants.len(), MAX_CONSTANTS);
+        let found = find_scalar(&self.context(lists, books), ty, literal);
+        let room = fits(
+            self.counts.constants,
+            1,
+            lists.constants.len(),
+            MAX_CONSTANTS,
+        );
         let ty = self.expect_value(lists, books, id, found, room)?;
         let constant = Constant { ty, value: literal };
         let index = push(lists.constants, &mut self.counts.constants, constant);

@@ -9,7 +9,7 @@ ghost use Rattle.reader.specs.Reads.{plan_room, read_checks, store_cells, store_
 use crate::append::fits;
 use crate::states::{ReaderState, Reading};
 use images::{Plan, StorePlan, parse_image_instruction};
-use memory::{BlockContext, IdBooks, Lists, has_space};
+use memory::{IdBooks, Lists, has_space};
 use records::{
     Error, LookupExpression, LookupSampledImage, MAX_EXPRESSIONS, MAX_STATEMENTS, expect,
 };
@@ -93,11 +93,7 @@ impl Reading {
     {
         let instruction = parse_instruction(words)?;
         self.expect_inside(lists)?;
-        let counts = self.counts();
-        let ctx = BlockContext {
-            lists: counts.used(lists),
-            books,
-        };
+        let ctx = self.context(lists, books);
         let plan = parse_image_instruction(&ctx, instruction)?;
         expect(self.plan_room(lists, books, plan), Error::Full)?;
         Ok(ReadPlan {

@@ -3,12 +3,13 @@ ghost use Rattle.std.specs.Prelude.{◌≡◌, ℕ, not, Some, None, Option, IfO
 ghost use Rattle.records.specs.declared.refusals.Error.TheVariants.{Mismatch};
 ghost use Rattle.records.specs.Refusals.{check};
 ghost use Rattle.memory.specs.Cells.{cells_of};
+ghost use Rattle.images.specs.Used.{used_of, used_in};
 ghost use Rattle.memory.specs.declared.lists.Counts.{Counts as Numbers};
 ghost use Rattle.reader.specs.Checks.{state_inside, value_checks};
 ghost use Rattle.reader.specs.Fits.{ValueFits};
 
 use crate::append::{fits, unplaced};
-use memory::{Counts, IdBooks, Lists, has_space};
+use memory::{BlockContext, Counts, IdBooks, Lists, has_space};
 use records::{Error, MAX_EXPRESSIONS, MAX_STATEMENTS, expect};
 
 // Where the open emit range begins: the first expression that no statement covers yet.
@@ -47,6 +48,22 @@ pub(crate) trait ReaderState {
         ensures { result ≡ check (not (state_inside (start self.now) (cells_of (numbers self.now) lists.now))) Mismatch }
     {
         expect(self.is_inside(lists), Error::Mismatch)
+    }
+
+    // What a call looks up in.
+    final fn context<'a, B: IdBooks>(
+        &self,
+        lists: &'a Lists<'_>,
+        books: &'a B,
+    ) -> BlockContext<'a, B>
+        ensures lists { used_of result.lists ≡ used_in (cells_of (numbers self.now) lists.now) }
+        ensures books { result.books.now ≡ books.now }
+    {
+        let counts = self.counts();
+        BlockContext {
+            lists: counts.used(lists),
+            books,
+        }
     }
 
     // The checks of a call that makes a value. `found` is what the call itself looked for, and `room` is whether its own
