@@ -1,4 +1,3 @@
 pub mod Passed
-pub mod Declared
 pub mod Written
 pub mod Readied

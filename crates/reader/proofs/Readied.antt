@@ -1,8 +1,9 @@
 -- What is known where all checks of an instruction have passed: there is room for every record, and a new id is new.
-use Rattle.std.proofs.Common.{◌≡◌, ℕ, ◌+◌, ◌≤◌, true, not, ◌&&◌, List, length, Ok, Option, sym, ap, ◌∙◌, subst}
+use Rattle.std.proofs.Common.{◌≡◌, ℕ, ◌+◌, true, not, ◌&&◌, List, Ok, Option, subst}
 use Rattle.records.specs.declared.refusals.Error.TheVariants.{InvalidResultId, Full, Mismatch}
 use Rattle.books.specs.Books.{taken}
-use Rattle.words.specs.Instructions.{check, instruction}
+use Rattle.records.specs.Refusals.{check}
+use Rattle.words.specs.Instructions.{instruction}
 use Rattle.words.specs.Opcodes.{row_of}
 use Rattle.words.specs.declared.instructions.Instruction.{Instruction}
 use Rattle.words.specs.declared.opcodes.OperandRule.{OperandRule}
@@ -17,13 +18,20 @@ use Rattle.images.specs.declared.instructions.Plan.{Plan}
 use Rattle.images.specs.declared.instructions.Plan.TheVariants as plans
 use Rattle.images.specs.declared.plans.SamplePlan.{SamplePlan}
 use Rattle.images.specs.declared.plans.LoadPlan.{LoadPlan}
-use Rattle.images.specs.declared.plans.StorePlan.{StorePlan}
 use Rattle.records.specs.declared.lookups.LookupSampledImage.{LookupSampledImage}
 use Rattle.reader.specs.declared.read.ReadPlan.{ReadPlan}
-use Rattle.reader.specs.States.{State}
-use Rattle.reader.specs.Checks.{max_expressions, max_statements, state_inside, by_checks}
-use Rattle.reader.specs.Reads.{store_cells, store_room, plan_room, read_checks, plan_step, reads}
+use Rattle.reader.specs.Checks.{max_expressions, max_statements, state_inside}
+use Rattle.reader.specs.Reads.{store_cells, plan_room, read_checks}
+use Rattle.reader.specs.Fits.{ResultFits, PlanFits}
 use Rattle.reader.proofs.Passed.{passed, same_ok, expect_ok, both_left, both_right, room_cells}
+
+result_fits : (c : Cells) (b : Shelf) (id n : ℕ) → not (taken b.values id) ≡ true
+    → (room_for n c.expressions max_expressions && has_space b.values) ≡ true → ResultFits c b id n
+result_fits c b id n new room = record {
+  new = new;
+  space = both_right (room_for n c.expressions max_expressions) _ room;
+  expressions = room_cells n c.expressions max_expressions (both_left _ (has_space b.values) room);
+}
 
 -- the id of a result is new in its own book
 abbrev pub NewFor : Shelf → ℕ → Plan → Type 0
@@ -58,75 +66,25 @@ module _ (u : Used) (b : Shelf) (i : Instruction) where
   by_rule p Load is = let x = passed (load_read u b i) _ p is in subst (NewFor b i.ids.result.id) (same_ok _ p x.rest) (load_new x.got x.first)
   by_rule p Store is = let x = passed (store_read u b i) _ p is in subst (NewFor b i.ids.result.id) (same_ok _ p x.rest) tt
 
-pub record ReadReady (emitter : Option ℕ) (c : Cells) (b : Shelf) (words : List ℕ) (r : ReadPlan) : Type 0 where
-  pub description : Instruction
-  pub described : instruction words ≡ Ok description
-  pub state : state_inside emitter c ≡ true
-  pub planned : plan_for (used_in c) b description ≡ Ok r.plan
-  pub named : r.id ≡ description.ids.result.id
-  pub new : NewFor b r.id r.plan
-  pub room : plan_room emitter c b r.plan ≡ true
+plan_fits : (emitter : Option ℕ) (c : Cells) (b : Shelf) (id : ℕ) (p : Plan) → NewFor b id p → plan_room emitter c b p ≡ true → PlanFits emitter c b id p
+plan_fits emitter c b id (plans.Couple l) new room = record { new = new; space = room }
+plan_fits emitter c b id (plans.Sample p) new room = result_fits c b id (sample_count p) new room
+plan_fits emitter c b id (plans.Load p) new room = result_fits c b id (load_count p) new room
+plan_fits emitter c b id (plans.Store p) new room =
+    let n = store_cells emitter (c.expressions.count + store_count p) in
+    record {
+      expressions = room_cells (store_count p) c.expressions max_expressions (both_left _ (room_for n c.statements max_statements) room);
+      statements = room_cells n c.statements max_statements (both_right (room_for (store_count p) c.expressions max_expressions) _ room);
+    }
 
-pub read_ready : (emitter : Option ℕ) (c : Cells) (b : Shelf) (words : List ℕ) (r : ReadPlan)
-    → read_checks emitter c b words ≡ Ok r → ReadReady emitter c b words r
-read_ready emitter c b words r is =
+-- what the checks of an instruction leave to know
+pub read_fits : (emitter : Option ℕ) (c : Cells) (b : Shelf) (words : List ℕ) (r : ReadPlan)
+    → read_checks emitter c b words ≡ Ok r → PlanFits emitter c b r.id r.plan
+read_fits emitter c b words r is =
     let one = passed (instruction words) _ r is in
     let two = passed (check (not (state_inside emitter c)) Mismatch) _ r one.rest in
     let three = passed (plan_for (used_in c) b one.got) _ r two.rest in
     let four = passed (check (not (plan_room emitter c b three.got)) Full) _ r three.rest in
-    let whole : record { id = one.got.ids.result.id; plan = three.got } ≡ r = same_ok _ r four.rest in
-    let id : one.got.ids.result.id ≡ r.id = ap (λ (x : ReadPlan). x.id) whole in
-    let plan : three.got ≡ r.plan = ap (λ (x : ReadPlan). x.plan) whole in
-    record {
-      description = one.got;
-      described = one.first;
-      state = expect_ok (state_inside emitter c) Mismatch two.got two.first;
-      planned = three.first ∙ ap Ok plan;
-      named = sym id;
-      new =
-          subst (λ n. NewFor b n r.plan) id
-          (subst (NewFor b one.got.ids.result.id) plan (by_rule (used_in c) b one.got three.got (row_of one.got.opcode).rule three.first));
-      room = ap (plan_room emitter c b) (sym plan) ∙ expect_ok (plan_room emitter c b three.got) Full four.got four.first;
-    }
-
--- a step whose checks have passed
-pub reads_so : (s : State) (words : List ℕ) (r : ReadPlan) (p : Plan) → Ok r ≡ read_checks s.emitter s.cells s.books words → r.plan ≡ p
-    → plan_step s r.id p ≡ reads s words
-reads_so s words r p is plan =
-    ap (plan_step s r.id) (sym plan) ∙ ap (λ q. by_checks s q (λ x. plan_step s x.id x.plan)) is
-
-module _ (emitter : Option ℕ) (c : Cells) (b : Shelf) (words : List ℕ) (r : ReadPlan) (ready : ReadReady emitter c b words r) where
-  pub couple_ready : (l : LookupSampledImage) → r.plan ≡ plans.Couple l
-      → (not (taken b.couples r.id) ≡ true) × (has_space b.couples ≡ true)
-  couple_ready l is = (subst (NewFor b r.id) is ready.new, ap (plan_room emitter c b) (sym is) ∙ ready.room)
-
-  pub record ValuesReady (n : ℕ) : Type 0 where
-    pub new : not (taken b.values r.id) ≡ true
-    pub space : has_space b.values ≡ true
-    pub inside : c.expressions.count + n ≤ length c.expressions.cells
-    pub limit : c.expressions.count + n ≤ 65536
-
-  values_ready : (n : ℕ) → not (taken b.values r.id) ≡ true → (room_for n c.expressions max_expressions && has_space b.values) ≡ true → ValuesReady n
-  values_ready n new room =
-      let cells = room_cells n c.expressions max_expressions (both_left _ (has_space b.values) room) in
-      record { new = new; space = both_right (room_for n c.expressions max_expressions) _ room; inside = cells.0; limit = cells.1 }
-
-  pub sample_ready : (p : SamplePlan) → r.plan ≡ plans.Sample p → ValuesReady (sample_count p)
-  sample_ready p is = values_ready (sample_count p) (subst (NewFor b r.id) is ready.new) (ap (plan_room emitter c b) (sym is) ∙ ready.room)
-
-  pub load_ready : (p : LoadPlan) → r.plan ≡ plans.Load p → ValuesReady (load_count p)
-  load_ready p is = values_ready (load_count p) (subst (NewFor b r.id) is ready.new) (ap (plan_room emitter c b) (sym is) ∙ ready.room)
-
-  pub record StoreReady (p : StorePlan) : Type 0 where
-    pub inside : c.expressions.count + store_count p ≤ length c.expressions.cells
-    pub limit : c.expressions.count + store_count p ≤ 65536
-    pub cells : c.statements.count + store_cells emitter (c.expressions.count + store_count p) ≤ length c.statements.cells
-    pub few : c.statements.count + store_cells emitter (c.expressions.count + store_count p) ≤ 65536
-
-  pub store_ready : (p : StorePlan) → r.plan ≡ plans.Store p → StoreReady p
-  store_ready p is =
-      let n = store_cells emitter (c.expressions.count + store_count p) in
-      let room : store_room emitter c p ≡ true = ap (plan_room emitter c b) (sym is) ∙ ready.room in
-      let one = room_cells (store_count p) c.expressions max_expressions (both_left _ (room_for n c.statements max_statements) room) in
-      let two = room_cells n c.statements max_statements (both_right (room_for (store_count p) c.expressions max_expressions) _ room) in
-      record { inside = one.0; limit = one.1; cells = two.0; few = two.1 }
+    let new = by_rule (used_in c) b one.got three.got (row_of one.got.opcode).rule three.first in
+    let room = expect_ok (plan_room emitter c b three.got) Full four.got four.first in
+    subst (λ (q : ReadPlan). PlanFits emitter c b q.id q.plan) (same_ok _ r four.rest) (plan_fits emitter c b one.got.ids.result.id three.got new room)

@@ -1,5 +1,5 @@
 -- Bringing values, while reading: what each call checks, in order, and what it leaves and answers.
-use Rattle.std.specs.Prelude.{ℕ, true, not, List, length, Some, None, Ok, Option, Result}
+use Rattle.std.specs.Prelude.{ℕ, true, not, List, length, Some, Ok, Option, Result}
 use Rattle.std.specs.List.{slice_get}
 use Rattle.std.specs.Option.{ok_or}
 use Rattle.records.specs.Expressions.{supplied, access}
@@ -8,9 +8,10 @@ use Rattle.records.specs.declared.lookups.LookupExpression.{LookupExpression}
 use Rattle.records.specs.declared.refusals.Error.{Error}
 use Rattle.records.specs.declared.refusals.Error.TheVariants.{InvalidOperand, InvalidType, Mismatch}
 use Rattle.records.specs.declared.types.TypeInner.{TypeInner}
-use Rattle.records.specs.declared.types.TypeInner.TheVariants.{Scalar, Vector, Image, Sampler, BindingArray}
+use Rattle.records.specs.declared.types.TypeInner.TheVariants.{Scalar}
 use Rattle.run.specs.Rules.{is_int}
-use Rattle.words.specs.Instructions.{and_then, check}
+use Rattle.images.specs.Rules.{array_base}
+use Rattle.records.specs.Refusals.{and_then, check}
 use Rattle.reader.specs.declared.bring.Element.{Element}
 use Rattle.memory.specs.Shelves.{Shelf}
 use Rattle.memory.specs.Cells.{used, Cells}
@@ -35,14 +36,6 @@ abbrev pub brings_value : State → ℕ → ℕ → Step LookupExpression
 brings_value s id ty =
     by_checks s (value_bring_checks s.emitter s.cells s.books id ty) (λ h.
     named s id (one_brought s.cells) (supplied h s.cells.brought) h)
-
--- what a binding array is an array of
-abbrev pub array_base : TypeInner → Option TypeHandle
-array_base (Scalar k) = None
-array_base (Vector s k) = None
-array_base (Image d a c) = None
-array_base Sampler = None
-array_base (BindingArray h) = Some h
 
 -- an element of a binding array by an integer: its base, its index and its type
 abbrev pub element_for : List TypeInner → ℕ → Shelf → ℕ → ℕ → Result Element Error

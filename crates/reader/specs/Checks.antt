@@ -2,7 +2,7 @@
 use Rattle.std.specs.Prelude.{ℕ, Bool, not, ◌&&◌, Some, None, Ok, Err, Option, Result, nat_le}
 use Rattle.records.specs.declared.refusals.Error.{Error}
 use Rattle.records.specs.declared.refusals.Error.TheVariants.{InvalidResultId, Full, Mismatch}
-use Rattle.words.specs.Instructions.{and_then, check}
+use Rattle.records.specs.Refusals.{and_then, check}
 use Rattle.memory.specs.Lookups.{new_value, has_space}
 use Rattle.memory.specs.Shelves.{Shelf}
 use Rattle.memory.specs.Cells.{room_for, Cells, counts_inside}

@@ -1,5 +1,6 @@
 pub mod States
 pub mod Checks
+pub mod Rooms
 pub mod Types
 pub mod Updates
 pub mod Declares
@@ -7,3 +8,4 @@ pub mod Brings
 pub mod Turns
 pub mod Writes
 pub mod Reads
+pub mod Fits

@@ -1,8 +1,8 @@
 -- Reading one instruction: its words, its checks in order, and what it leaves and answers.
-use Rattle.std.specs.Prelude.{ℕ, ◌+◌, Bool, not, ◌&&◌, List, Some, None, Ok, Option, Result, nat_lt, slice_index_or, slice_set}
-use Rattle.records.specs.Expressions.{no_type}
-use Rattle.records.specs.Flags.{inserted}
+use Rattle.std.specs.Prelude.{ℕ, ◌+◌, Bool, not, ◌&&◌, List, Some, None, Ok, Option, Result, nat_lt}
+use Rattle.records.specs.Flags.{union}
 use Rattle.records.specs.declared.expressions.Expression.{Expression}
+use Rattle.records.specs.declared.flags.SamplingFlags.{SamplingFlags}
 use Rattle.records.specs.declared.lookups.LookupExpression.{LookupExpression}
 use Rattle.records.specs.declared.refusals.Error.{Error}
 use Rattle.records.specs.declared.refusals.Error.TheVariants.{Full, Mismatch}
@@ -13,7 +13,8 @@ use Rattle.records.specs.declared.variables.GlobalVariable.{GlobalVariable}
 use Rattle.records.specs.declared.variables.FunctionArgument.{FunctionArgument}
 use Rattle.units.specs.declared.values.Root.{Root}
 use Rattle.units.specs.declared.values.Root.TheVariants.{Variable, Argument}
-use Rattle.words.specs.Instructions.{and_then, check, instruction}
+use Rattle.records.specs.Refusals.{and_then, check}
+use Rattle.words.specs.Instructions.{instruction}
 use Rattle.memory.specs.Cells.{room_for, Cells}
 use Rattle.memory.specs.Lookups.{has_space}
 use Rattle.memory.specs.Shelves.{Shelf}
@@ -33,7 +34,7 @@ use Rattle.reader.specs.States.{State, Step}
 use Rattle.reader.specs.Checks.{max_expressions, max_statements, state_inside, by_checks}
 use Rattle.reader.specs.Turns.{closed}
 use Rattle.reader.specs.Updates.{push_statement, lookup_at, put_value, put_couple}
-use Rattle.reader.specs.Writes.{written}
+use Rattle.reader.specs.Writes.{written, changed}
 
 -- Room (15). A store takes one statement cell, one more if the range that it closes is not empty, and one stays held; its own
 -- expressions belong to that range.
@@ -76,23 +77,17 @@ appended c es n = record {
 
 -- A flag goes to a variable or an argument.
 
-abbrev pub no_variable : GlobalVariable
-no_variable = record { ty = no_type; flags = 0 }
+abbrev pub variable_with : SamplingFlags → GlobalVariable → GlobalVariable
+variable_with flag v = record { ty = v.ty; flags = union v.flags flag }
 
-abbrev pub no_argument : FunctionArgument
-no_argument = record { ty = no_type; flags = 0 }
+abbrev pub argument_with : SamplingFlags → FunctionArgument → FunctionArgument
+argument_with flag a = record { ty = a.ty; flags = union a.flags flag }
 
-abbrev pub variable_flagged : List GlobalVariable → ℕ → ℕ → List GlobalVariable
-variable_flagged vs h flag = slice_set vs h (record { ty = (slice_index_or vs h no_variable).ty; flags = inserted (slice_index_or vs h no_variable).flags flag })
-
-abbrev pub argument_flagged : List FunctionArgument → ℕ → ℕ → List FunctionArgument
-argument_flagged xs h flag = slice_set xs h (record { ty = (slice_index_or xs h no_argument).ty; flags = inserted (slice_index_or xs h no_argument).flags flag })
-
-abbrev pub flagged : Cells → ℕ → Root → Cells
+abbrev pub flagged : Cells → SamplingFlags → Root → Cells
 flagged c flag (Variable h) = record {
   brought = c.brought;
   types = c.types;
-  variables = record { cells = variable_flagged c.variables.cells h.index flag; count = c.variables.count };
+  variables = record { cells = changed c.variables.cells h.index (variable_with flag); count = c.variables.count };
   arguments = c.arguments;
   constants = c.constants;
   expressions = c.expressions;
@@ -102,7 +97,7 @@ flagged c flag (Argument h) = record {
   brought = c.brought;
   types = c.types;
   variables = c.variables;
-  arguments = record { cells = argument_flagged c.arguments.cells h.index flag; count = c.arguments.count };
+  arguments = record { cells = changed c.arguments.cells h.index (argument_with flag); count = c.arguments.count };
   constants = c.constants;
   expressions = c.expressions;
   statements = c.statements;

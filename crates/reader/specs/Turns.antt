@@ -5,7 +5,7 @@ use Rattle.records.specs.declared.refusals.Error.TheVariants.{Full, Mismatch}
 use Rattle.records.specs.declared.statements.Statement.{Statement}
 use Rattle.records.specs.declared.statements.Statement.TheVariants.{Emit}
 use Rattle.books.specs.Books.{count}
-use Rattle.words.specs.Instructions.{and_then, check}
+use Rattle.records.specs.Refusals.{and_then, check}
 use Rattle.memory.specs.declared.lists.Counts.{Counts}
 use Rattle.memory.specs.declared.lists.Lists.{Lists}
 use Rattle.reader.specs.declared.states.AtRest.{AtRest}

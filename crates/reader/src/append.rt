@@ -1,63 +1,66 @@
-// Room for one value more, and its append.
-ghost use Rattle.std.specs.Prelude.{◌≡◌, ◌<◌, true, not, ◌&&◌, length, slice_set};
-ghost use Rattle.books.specs.Books.{taken, added};
-ghost use Rattle.memory.specs.Lookups.{has_space};
-ghost use Rattle.reader.specs.Checks.{value_room};
+// One record more in a list, and one value more, which an id names.
+ghost use Rattle.std.specs.Prelude.{◌≡◌, ◌+◌, ◌<◌, min, not, true, length, nat_le, slice_set};
+ghost use Rattle.books.specs.Books.{taken};
 ghost use Rattle.memory.specs.Cells.{cells_of};
-ghost use Rattle.memory.specs.Shelves.{shelf_of};
-ghost use Rattle.records.specs.declared.refusals.Error.TheVariants.{Full};
-ghost use Rattle.words.specs.Instructions.{check};
-ghost use Rattle.reader.specs.Updates.{lookup_at};
+ghost use Rattle.memory.specs.Lookups.{has_space};
+ghost use Rattle.reader.specs.Checks.{max_expressions};
+ghost use Rattle.reader.specs.Rooms.{RoomIn};
+ghost use Rattle.reader.specs.Updates.{push_expression, put_value, lookup_at};
 
-use books::LookupHelper;
-use memory::{Books, Counts, Lists, has_room, has_space};
-use records::{
-    Error, Expression, ExpressionHandle, LookupExpression, LookupSampledImage, LookupType,
-    MAX_EXPRESSIONS, TypeHandle,
-};
+use memory::{Counts, IdBooks, Lists, has_room};
+use records::{Expression, ExpressionHandle, LookupExpression, TypeHandle};
+use words::IdRef;
 
-// Appends an expression, of which there are `count`, and has a new id name it.
-pub(crate) fn append_value<V: LookupHelper<LookupExpression>>(
-    expressions: &mut [Expression],
-    values: &mut V,
-    count: u32,
+// The id of a call that has no words: it blames place 0.
+pub(crate) fn unplaced(id: u32) -> IdRef
+    ensures { result ≡ record { id = id; place = 0 } }
+{
+    IdRef { id, place: 0 }
+}
+
+// Whether some more records fit into a list of so many cells, of which `count` are used.
+pub(crate) fn fits(count: u32, more: u32, cells: usize, limit: usize) -> bool
+    ensures value { result ≡ nat_le (count + more) (min cells limit) }
+    ensures room { result ≡ true → RoomIn cells count more limit }
+{
+    has_room(count, more, cells, limit)
+}
+
+// Appends a record to a list of which `count` cells are used, and answers its number.
+pub(crate) fn push<T: Copy>(cells: &mut [T], count: &mut u32, item: T) -> u32
+    requires lent { count.old < length cells.old }
+    requires counted { count.old < u32.MAX }
+    ensures cells { cells.new ≡ slice_set cells.old count.old item }
+    ensures count { count.new ≡ count.old + 1 }
+    ensures number { result ≡ count.old }
+{
+    let number = *count;
+    cells[number as usize] = item;
+    *count = number + 1;
+    number
+}
+
+// Appends an expression, and has a new id name it.
+pub(crate) fn append_value<B: IdBooks>(
+    counts: &mut Counts,
+    lists: &mut Lists<'_>,
+    books: &mut B,
     id: u32,
     expression: Expression,
     ty: TypeHandle,
 ) -> LookupExpression
-    requires room { count < length expressions.old }
-    requires new { not (taken (V.LookupHelper.book values.old) id) ≡ true }
-    requires space { has_space (V.LookupHelper.book values.old) ≡ true }
-    ensures value { result ≡ lookup_at count ty }
-    ensures appended { expressions.new ≡ slice_set expressions.old count expression }
-    ensures named { V.LookupHelper.book values.new ≡ added (V.LookupHelper.book values.old) id (lookup_at count ty) }
+    requires room { RoomIn (length lists.old.expressions.now) counts.old.expressions 1 max_expressions }
+    requires new { not (taken (B.shelf books.old).values id) ≡ true }
+    requires space { has_space (B.shelf books.old).values ≡ true }
+    ensures value { result ≡ lookup_at counts.old.expressions ty }
+    ensures appended { cells_of counts.new lists.new ≡ push_expression (cells_of counts.old lists.old) expression }
+    ensures named { B.shelf books.new ≡ put_value (B.shelf books.old) id (lookup_at counts.old.expressions ty) }
 {
+    let index = push(lists.expressions, &mut counts.expressions, expression);
     let lookup = LookupExpression {
-        handle: ExpressionHandle { index: count },
+        handle: ExpressionHandle { index },
         ty,
     };
-    expressions[count as usize] = expression;
-    values.put(id, lookup).unwrap();
+    books.put_value(id, lookup).unwrap();
     lookup
-}
-
-// Room for one expression and its id, besides what `room` says of another list.
-pub(crate) fn expect_value_room<
-    T: LookupHelper<LookupType>,
-    V: LookupHelper<LookupExpression>,
-    C: LookupHelper<LookupSampledImage>,
->(counts: Counts, room: bool, lists: &Lists<'_>, books: &Books<T, V, C>) -> Result<(), Error>
-    ensures { result ≡ check (not (room && value_room (cells_of counts lists.now) (shelf_of T.LookupHelper.book V.LookupHelper.book C.LookupHelper.book books.now))) Full }
-{
-    let expressions = has_room(
-        counts.expressions,
-        1,
-        lists.expressions.len(),
-        MAX_EXPRESSIONS,
-    );
-    if room && (expressions && has_space(&books.values)) {
-        Ok(())
-    } else {
-        Err(Error::Full)
-    }
 }

@@ -1,146 +1,90 @@
 // Writing what an instruction makes, once all its checks have passed.
-ghost use Rattle.std.specs.Prelude.{◌≡◌, ℕ, ◌+◌, ◌<◌, ◌≤◌, true, not, length, if◌then◌else◌, Some, nat_lt, slice_set};
-ghost use Rattle.books.specs.Books.{taken};
-ghost use Rattle.memory.specs.Lookups.{has_space};
-ghost use Rattle.memory.specs.Shelves.{Shelf, shelf_of};
+ghost use Rattle.std.specs.Prelude.{◌≡◌, ◌+◌, length, Some};
+ghost use Rattle.memory.specs.Cells.{cells_of};
 ghost use Rattle.images.specs.Records.{sample_count, load_count, store_count};
 ghost use Rattle.reader.specs.States.{reading};
-ghost use Rattle.reader.specs.Reads.{plan_step, sample_lookup, load_lookup, last_of, store_cells};
-ghost use Rattle.reader.specs.Turns.{emit};
+ghost use Rattle.reader.specs.Reads.{plan_step, sample_lookup, load_lookup, store_cells_after};
+ghost use Rattle.reader.specs.Turns.{closed};
+ghost use Rattle.reader.specs.Checks.{max_statements};
+ghost use Rattle.reader.specs.Fits.{ResultFits, StoreFits};
+ghost use Rattle.reader.specs.Rooms.{RoomIn};
 
+use crate::append::push;
 use crate::commit::{append_load, append_sample, append_store};
 use crate::mark::mark;
-use crate::split::handle;
 use crate::states::{Emitter, Reading};
-use books::LookupHelper;
 use images::{LoadPlan, Plan, SamplePlan, StorePlan};
-use memory::{Books, Counts, Lists};
-use records::{LookupExpression, LookupSampledImage, LookupType, Statement, VectorSize};
-
-fn last_of(splat: Option<VectorSize>) -> u32
-    ensures value { result ≡ last_of splat }
-    ensures bound { result ≤ 1 }
-{
-    match splat {
-        Some(_) => 1,
-        None => 0,
-    }
-}
-
-// Appends the statement that covers the range, unless it is empty, and answers how many statements there are then.
-fn close_range(statements: &mut [Statement], count: u32, emitter: &Emitter, end: u32) -> u32
-    requires inside { count < length statements.old }
-    requires limit { count < 65536 }
-    ensures cells { statements.new ≡ (if nat_lt emitter.now.start_len end then slice_set statements.old count (emit emitter.now.start_len end) else statements.old) }
-    ensures count { result ≡ (if nat_lt emitter.now.start_len end then count + 1 else count) }
-{
-    match emitter.finish(end) {
-        Some(statement) => {
-            statements[count as usize] = statement;
-            count + 1
-        }
-        None => count,
-    }
-}
+use memory::{IdBooks, Lists};
+use records::{LookupExpression, Statement};
 
 impl Reading {
+    // Appends the statement that covers the open range, unless it is empty.
+    pub(crate) fn close_range(&mut self, lists: &mut Lists<'_>)
+        requires { RoomIn (length lists.old.statements.now) self.old.counts.statements 1 max_statements }
+        ensures closed { cells_of self.new.counts lists.new ≡ closed self.old.emitter.start_len (cells_of self.old.counts lists.old) }
+        ensures emitter { self.new.emitter ≡ self.old.emitter }
+    {
+        if let Some(statement) = self.emitter.finish(self.counts.expressions) {
+            push(lists.statements, &mut self.counts.statements, statement);
+        }
+    }
+
     // A load.
-    pub(crate) fn commit_load<
-        T: LookupHelper<LookupType>,
-        V: LookupHelper<LookupExpression>,
-        C: LookupHelper<LookupSampledImage>,
-    >(
-        self,
+    pub(crate) fn commit_load<B: IdBooks>(
+        &mut self,
         lists: &mut Lists<'_>,
-        books: &mut Books<T, V, C>,
+        books: &mut B,
         id: u32,
         plan: LoadPlan,
-    ) -> (Reading, LookupExpression)
-        requires inside { self.counts.expressions + load_count plan ≤ length lists.old.expressions.now }
-        requires limit { self.counts.expressions + load_count plan ≤ 65536 }
-        requires new { not (taken (V.LookupHelper.book books.old.values) id) ≡ true }
-        requires space { has_space (V.LookupHelper.book books.old.values) ≡ true }
-        ensures state { reading result.0 lists.new (shelf_of T.LookupHelper.book V.LookupHelper.book C.LookupHelper.book books.new) ≡ (plan_step (reading self lists.old (shelf_of T.LookupHelper.book V.LookupHelper.book C.LookupHelper.book books.old)) id (Plan.Load plan)).state }
-        ensures answer { result.1 ≡ load_lookup self.counts.expressions plan }
+    ) -> LookupExpression
+        requires { ResultFits (cells_of self.old.counts lists.old) (B.shelf books.old) id (load_count plan) }
+        ensures state { reading self.new lists.new (B.shelf books.new) ≡ (plan_step (reading self.old lists.old (B.shelf books.old)) id (Plan.Load plan)).state }
+        ensures answer { result ≡ load_lookup self.old.counts.expressions plan }
     {
-        let Reading { counts, emitter } = self;
-        let used = counts.expressions;
-        append_load(lists.expressions, used, plan);
-        let lookup = LookupExpression {
-            handle: handle(used + plan.split.count() + last_of(plan.splat)),
-            ty: plan.result,
-        };
-        books.values.put(id, lookup).unwrap();
-        let counts = Counts {
-            expressions: used + plan.count(),
-            ..counts
-        };
-        (Reading { counts, emitter }, lookup)
+        let lookup = append_load(lists.expressions, self.counts.expressions, plan);
+        self.counts.expressions += plan.count();
+        books.put_value(id, lookup).unwrap();
+        lookup
     }
 
     // A sample or gather: its records, its flags and its id.
-    pub(crate) fn commit_sample<
-        T: LookupHelper<LookupType>,
-        V: LookupHelper<LookupExpression>,
-        C: LookupHelper<LookupSampledImage>,
-    >(
-        self,
+    pub(crate) fn commit_sample<B: IdBooks>(
+        &mut self,
         lists: &mut Lists<'_>,
-        books: &mut Books<T, V, C>,
+        books: &mut B,
         id: u32,
         plan: SamplePlan,
-    ) -> (Reading, LookupExpression)
-        requires inside { self.counts.expressions + sample_count plan ≤ length lists.old.expressions.now }
-        requires limit { self.counts.expressions + sample_count plan ≤ 65536 }
-        requires new { not (taken (V.LookupHelper.book books.old.values) id) ≡ true }
-        requires space { has_space (V.LookupHelper.book books.old.values) ≡ true }
-        ensures state { reading result.0 lists.new (shelf_of T.LookupHelper.book V.LookupHelper.book C.LookupHelper.book books.new) ≡ (plan_step (reading self lists.old (shelf_of T.LookupHelper.book V.LookupHelper.book C.LookupHelper.book books.old)) id (Plan.Sample plan)).state }
-        ensures answer { result.1 ≡ sample_lookup self.counts.expressions plan }
+    ) -> LookupExpression
+        requires { ResultFits (cells_of self.old.counts lists.old) (B.shelf books.old) id (sample_count plan) }
+        ensures state { reading self.new lists.new (B.shelf books.new) ≡ (plan_step (reading self.old lists.old (B.shelf books.old)) id (Plan.Sample plan)).state }
+        ensures answer { result ≡ sample_lookup self.old.counts.expressions plan }
     {
-        let Reading { counts, emitter } = self;
-        let used = counts.expressions;
-        append_sample(lists.expressions, used, plan);
+        let lookup = append_sample(lists.expressions, self.counts.expressions, plan);
         mark(lists, plan.image_root, plan.flag);
         mark(lists, plan.sampler_root, plan.flag);
-        let k = used + plan.split.count() + plan.split.reference_count(plan.reference);
-        let lookup = LookupExpression {
-            handle: handle(k + last_of(plan.splat)),
-            ty: plan.result,
-        };
-        books.values.put(id, lookup).unwrap();
-        let counts = Counts {
-            expressions: used + plan.count(),
-            ..counts
-        };
-        (Reading { counts, emitter }, lookup)
+        self.counts.expressions += plan.count();
+        books.put_value(id, lookup).unwrap();
+        lookup
     }
 
     // A store: the expressions of its place and value, the range that they close, and the store itself. A new range begins.
-    pub(crate) fn commit_store(self, lists: &mut Lists<'_>, plan: StorePlan) -> Reading
-        requires inside { self.counts.expressions + store_count plan ≤ length lists.old.expressions.now }
-        requires limit { self.counts.expressions + store_count plan ≤ 65536 }
-        requires cells { self.counts.statements + store_cells (Some self.emitter.start_len) (self.counts.expressions + store_count plan) ≤ length lists.old.statements.now }
-        requires few { self.counts.statements + store_cells (Some self.emitter.start_len) (self.counts.expressions + store_count plan) ≤ 65536 }
-        ensures { (books : Shelf) (id : ℕ) → reading result lists.new books ≡ (plan_step (reading self lists.old books) id (Plan.Store plan)).state }
+    pub(crate) fn commit_store(&mut self, lists: &mut Lists<'_>, plan: StorePlan)
+        requires { StoreFits (Some self.old.emitter.start_len) (cells_of self.old.counts lists.old) plan }
+        ensures cells { cells_of self.new.counts lists.new ≡ store_cells_after self.old.emitter.start_len (cells_of self.old.counts lists.old) plan }
+        ensures emitter { self.new.emitter.start_len ≡ self.old.counts.expressions + store_count plan }
     {
-        let Reading { counts, emitter } = self;
-        let operands = append_store(lists.expressions, counts.expressions, plan);
-        let expressions = counts.expressions + plan.count();
-        let n = close_range(lists.statements, counts.statements, &emitter, expressions);
-        lists.statements[n as usize] = Statement::ImageStore {
+        let operands = append_store(lists.expressions, self.counts.expressions, plan);
+        self.counts.expressions += plan.count();
+        self.close_range(lists);
+        let store = Statement::ImageStore {
             image: plan.image,
             coordinate: operands.coordinate,
             array_index: operands.array_index,
             value: operands.value,
         };
-        let counts = Counts {
-            expressions,
-            statements: n + 1,
-            ..counts
+        push(lists.statements, &mut self.counts.statements, store);
+        self.emitter = Emitter {
+            start_len: self.counts.expressions,
         };
-        let emitter = Emitter {
-            start_len: expressions,
-        };
-        Reading { counts, emitter }
     }
 }

@@ -2,6 +2,7 @@
 #![tactic(auto)]
 
 mod append;
+mod arena;
 mod bring;
 mod commit;
 mod commits;

@@ -1,44 +1,43 @@
 // Setting a sampling flag on a variable or argument.
-ghost use Rattle.std.specs.Prelude.{◌≡◌};
+ghost use Rattle.std.specs.Prelude.{◌≡◌, ℕ, slice_get, slice_set, MatchOption};
 ghost use Rattle.memory.specs.Cells.{cells_of};
 ghost use Rattle.memory.specs.declared.lists.Counts.{Counts};
-ghost use Rattle.reader.specs.Reads.{variable_flagged, argument_flagged, flagged};
+ghost use Rattle.reader.specs.Reads.{flagged};
 
 use memory::Lists;
-use records::{FunctionArgument, GlobalVariable, insert_flag};
+use records::{FunctionArgument, GlobalVariable, SamplingFlags};
 use units::Root;
 
-fn mark_variable(variables: &mut [GlobalVariable], index: u32, flag: u32)
-    ensures { variables.new ≡ variable_flagged variables.old index flag }
+// Changes the record with a number, if there is one.
+fn change<T: Copy, F: FnOnce(T) -> T>(records: &mut [T], index: u32, f: F)
+    requires { F.IsAlwaysCallable f }
+    ensures { MatchOption (slice_get records.old index) (records.new ≡ records.old) (λ x. (y : _) × F.post f x y × (records.new ≡ slice_set records.old index y)) }
 {
     let i = index as usize;
-    if i < variables.len() {
-        let variable = variables[i];
-        variables[i] = GlobalVariable {
-            ty: variable.ty,
-            flags: insert_flag(variable.flags, flag),
-        };
+    if let Some(record) = records.get(i).copied() {
+        records[i] = f(record);
     }
 }
 
-fn mark_argument(arguments: &mut [FunctionArgument], index: u32, flag: u32)
-    ensures { arguments.new ≡ argument_flagged arguments.old index flag }
-{
-    let i = index as usize;
-    if i < arguments.len() {
-        let argument = arguments[i];
-        arguments[i] = FunctionArgument {
-            ty: argument.ty,
-            flags: insert_flag(argument.flags, flag),
-        };
-    }
-}
-
-pub(crate) fn mark(lists: &mut Lists<'_>, root: Root, flag: u32)
+pub(crate) fn mark(lists: &mut Lists<'_>, root: Root, flag: SamplingFlags)
     ensures { (counts : Counts) → cells_of counts lists.new ≡ flagged (cells_of counts lists.old) flag root }
 {
     match root {
-        Root::Variable(variable) => mark_variable(lists.variables, variable.index, flag),
-        Root::Argument(argument) => mark_argument(lists.arguments, argument.index, flag),
+        Root::Variable(variable) => change(
+            lists.variables,
+            variable.index,
+            |v: GlobalVariable| GlobalVariable {
+                flags: v.flags.union(flag),
+                ..v
+            },
+        ),
+        Root::Argument(argument) => change(
+            lists.arguments,
+            argument.index,
+            |a: FunctionArgument| FunctionArgument {
+                flags: a.flags.union(flag),
+                ..a
+            },
+        ),
     }
 }

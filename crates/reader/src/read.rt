@@ -1,17 +1,17 @@
 // Reading one instruction: decode, plan, see that there is room, commit.
-ghost use Rattle.std.specs.Prelude.{◌≡◌, Some};
+ghost use Rattle.std.specs.Prelude.{◌≡◌, Some, IfOk};
 ghost use Rattle.memory.specs.Cells.{cells_of, room_for};
 ghost use Rattle.reader.specs.Checks.{max_expressions};
+ghost use Rattle.reader.specs.Fits.{PlanFits};
 ghost use Rattle.reader.specs.States.{reading};
-ghost use Rattle.memory.specs.Shelves.{shelf_of};
 ghost use Rattle.reader.specs.Reads.{plan_room, read_checks, store_cells, store_room, reads};
 
-use crate::states::Reading;
-use books::LookupHelper;
-use images::{LoadPlan, Plan, SamplePlan, StorePlan, parse_image_instruction};
-use memory::{Books, Counts, Lists, has_room, has_space};
+use crate::append::fits;
+use crate::states::{ReaderState, Reading};
+use images::{Plan, StorePlan, parse_image_instruction};
+use memory::{IdBooks, Lists, has_space};
 use records::{
-    Error, LookupExpression, LookupSampledImage, LookupType, MAX_EXPRESSIONS, MAX_STATEMENTS,
+    Error, LookupExpression, LookupSampledImage, MAX_EXPRESSIONS, MAX_STATEMENTS, expect,
 };
 use words::parse_instruction;
 
@@ -41,7 +41,7 @@ impl Reading {
     fn expression_room(&self, more: u32, lists: &Lists<'_>) -> bool
         ensures { result ≡ room_for more (cells_of self.now.counts lists.now).expressions max_expressions }
     {
-        has_room(
+        fits(
             self.counts.expressions,
             more,
             lists.expressions.len(),
@@ -57,7 +57,7 @@ impl Reading {
             return false;
         }
         let cells = self.store_cells(self.counts.expressions + count);
-        has_room(
+        fits(
             self.counts.statements,
             cells,
             lists.statements.len(),
@@ -65,79 +65,79 @@ impl Reading {
         )
     }
 
-    // Whether a list or book lacks cells for what is to be appended.
-    fn plan_room<
-        T: LookupHelper<LookupType>,
-        V: LookupHelper<LookupExpression>,
-        C: LookupHelper<LookupSampledImage>,
-    >(&self, lists: &Lists<'_>, books: &Books<T, V, C>, plan: Plan) -> bool
-        ensures { result ≡ plan_room (Some self.now.emitter.start_len) (cells_of self.now.counts lists.now) (shelf_of T.LookupHelper.book V.LookupHelper.book C.LookupHelper.book books.now) plan }
+    // Whether there are cells in the lists and the books for what is to be appended.
+    fn plan_room<B: IdBooks>(&self, lists: &Lists<'_>, books: &B, plan: Plan) -> bool
+        ensures { result ≡ plan_room (Some self.now.emitter.start_len) (cells_of self.now.counts lists.now) (B.shelf books.now) plan }
     {
         match plan {
-            Plan::Couple(_) => has_space(&books.couples),
-            Plan::Sample(plan) => self.expression_room(plan.count(), lists)
-                && has_space(&books.values),
-            Plan::Load(plan) => self.expression_room(plan.count(), lists)
-                && has_space(&books.values),
+            Plan::Couple(_) => has_space(books.couples()),
+            Plan::Sample(plan) => {
+                self.expression_room(plan.count(), lists) && has_space(books.values())
+            }
+            Plan::Load(plan) => {
+                self.expression_room(plan.count(), lists) && has_space(books.values())
+            }
             Plan::Store(plan) => self.store_room(lists, plan),
         }
     }
 
     // Every check of an instruction, in the order of the refusals.
-    fn plan_read<
-        T: LookupHelper<LookupType>,
-        V: LookupHelper<LookupExpression>,
-        C: LookupHelper<LookupSampledImage>,
-    >(&self, lists: &Lists<'_>, books: &Books<T, V, C>, words: &[u32]) -> Result<ReadPlan, Error>
-        ensures { result ≡ read_checks (Some self.now.emitter.start_len) (cells_of self.now.counts lists.now) (shelf_of T.LookupHelper.book V.LookupHelper.book C.LookupHelper.book books.now) words.now }
+    fn plan_read<B: IdBooks>(
+        &self,
+        lists: &Lists<'_>,
+        books: &B,
+        words: &[u32],
+    ) -> Result<ReadPlan, Error>
+        ensures checks { result ≡ read_checks (Some self.now.emitter.start_len) (cells_of self.now.counts lists.now) (B.shelf books.now) words.now }
+        ensures fits { IfOk result (λ r. PlanFits (Some self.now.emitter.start_len) (cells_of self.now.counts lists.now) (B.shelf books.now) r.id r.plan) }
     {
         let instruction = parse_instruction(words)?;
         self.expect_inside(lists)?;
-        let plan = parse_image_instruction(lists, self.counts, books, instruction)?;
-        if !self.plan_room(lists, books, plan) {
-            return Err(Error::Full);
-        }
+        let ctx = self.context(lists, books);
+        let plan = parse_image_instruction(&ctx, instruction)?;
+        expect(self.plan_room(lists, books, plan), Error::Full)?;
         Ok(ReadPlan {
             id: instruction.ids.result.id,
             plan,
         })
     }
 
-    // Reads one instruction. A refused one writes nothing.
-    pub(crate) fn read_instruction<
-        T: LookupHelper<LookupType>,
-        V: LookupHelper<LookupExpression>,
-        C: LookupHelper<LookupSampledImage>,
-    >(
-        self,
+    fn read<B: IdBooks>(
+        &mut self,
         lists: &mut Lists<'_>,
-        books: &mut Books<T, V, C>,
+        books: &mut B,
         words: &[u32],
-    ) -> (Reading, Result<Answer, Error>)
-        ensures state { reading result.0 lists.new (shelf_of T.LookupHelper.book V.LookupHelper.book C.LookupHelper.book books.new) ≡ (reads (reading self lists.old (shelf_of T.LookupHelper.book V.LookupHelper.book C.LookupHelper.book books.old)) words.now).state }
-        ensures answer { result.1 ≡ (reads (reading self lists.old (shelf_of T.LookupHelper.book V.LookupHelper.book C.LookupHelper.book books.old)) words.now).answer }
+    ) -> Result<Answer, Error>
+        ensures state { reading self.new lists.new (B.shelf books.new) ≡ (reads (reading self.old lists.old (B.shelf books.old)) words.now).state }
+        ensures answer { result ≡ (reads (reading self.old lists.old (B.shelf books.old)) words.now).answer }
     {
-        let planned = match self.plan_read(lists, books, words) {
-            Ok(planned) => planned,
-            Err(error) => return (self, Err(error)),
-        };
-        match planned.plan {
+        let ReadPlan { id, plan } = self.plan_read(lists, books, words)?;
+        match plan {
             Plan::Couple(couple) => {
-                books.couples.put(planned.id, couple).unwrap();
-                (self, Ok(Answer::Couple(couple)))
+                books.put_couple(id, couple).unwrap();
+                Ok(Answer::Couple(couple))
             }
-            Plan::Sample(plan) => {
-                let (reader, lookup) = self.commit_sample(lists, books, planned.id, plan);
-                (reader, Ok(Answer::Value(lookup)))
-            }
-            Plan::Load(plan) => {
-                let (reader, lookup) = self.commit_load(lists, books, planned.id, plan);
-                (reader, Ok(Answer::Value(lookup)))
-            }
+            Plan::Sample(plan) => Ok(Answer::Value(self.commit_sample(lists, books, id, plan))),
+            Plan::Load(plan) => Ok(Answer::Value(self.commit_load(lists, books, id, plan))),
             Plan::Store(plan) => {
-                let reader = self.commit_store(lists, plan);
-                (reader, Ok(Answer::Store))
+                self.commit_store(lists, plan);
+                Ok(Answer::Store)
             }
         }
+    }
+
+    // Reads one instruction. A refused one writes nothing.
+    pub(crate) fn read_instruction<B: IdBooks>(
+        self,
+        lists: &mut Lists<'_>,
+        books: &mut B,
+        words: &[u32],
+    ) -> (Reading, Result<Answer, Error>)
+        ensures state { reading result.0 lists.new (B.shelf books.new) ≡ (reads (reading self lists.old (B.shelf books.old)) words.now).state }
+        ensures answer { result.1 ≡ (reads (reading self lists.old (B.shelf books.old)) words.now).answer }
+    {
+        let mut reader = self;
+        let answer = reader.read(lists, books, words);
+        (reader, answer)
     }
 }

@@ -1,12 +1,16 @@
 // The reader's two states. Each is moved by its calls, so that a call in the wrong state does not compile.
-ghost use Rattle.std.specs.Prelude.{◌≡◌, not, Some, None};
+ghost use Rattle.std.specs.Prelude.{◌≡◌, ℕ, not, Some, None, Option, IfOk};
 ghost use Rattle.records.specs.declared.refusals.Error.TheVariants.{Mismatch};
-ghost use Rattle.words.specs.Instructions.{check};
+ghost use Rattle.records.specs.Refusals.{check};
 ghost use Rattle.memory.specs.Cells.{cells_of};
-ghost use Rattle.reader.specs.Checks.{state_inside};
+ghost use Rattle.images.specs.Used.{used_of, used_in};
+ghost use Rattle.memory.specs.declared.lists.Counts.{Counts as Numbers};
+ghost use Rattle.reader.specs.Checks.{state_inside, value_checks};
+ghost use Rattle.reader.specs.Fits.{ValueFits};
 
-use memory::{Counts, Lists, has_room};
-use records::{Error, MAX_STATEMENTS};
+use crate::append::{fits, unplaced};
+use memory::{BlockContext, Counts, IdBooks, Lists, has_space};
+use records::{Error, MAX_EXPRESSIONS, MAX_STATEMENTS, expect};
 
 // Where the open emit range begins: the first expression that no statement covers yet.
 #[derive(Drop)]
@@ -27,30 +31,94 @@ pub struct Reading {
     pub emitter: Emitter,
 }
 
-impl AtRest {
-    // Whether its numbers lie inside the lists.
-    pub(crate) fn expect_inside(&self, lists: &Lists<'_>) -> Result<(), Error>
-        ensures { result ≡ check (not (state_inside None (cells_of self.now.counts lists.now))) Mismatch }
+// What is checked in both states.
+pub(crate) trait ReaderState {
+    ghost start: { Self → Option ℕ };
+
+    ghost numbers: { Self → Numbers };
+
+    fn counts(&self) -> Counts
+        ensures { result ≡ numbers self.now };
+
+    // Whether its numbers lie inside the lists, and what is held for it is there.
+    fn is_inside(&self, lists: &Lists<'_>) -> bool
+        ensures { result ≡ state_inside (start self.now) (cells_of (numbers self.now) lists.now) };
+
+    final fn expect_inside(&self, lists: &Lists<'_>) -> Result<(), Error>
+        ensures { result ≡ check (not (state_inside (start self.now) (cells_of (numbers self.now) lists.now))) Mismatch }
     {
-        if self.counts.inside(lists) {
-            Ok(())
-        } else {
-            Err(Error::Mismatch)
+        expect(self.is_inside(lists), Error::Mismatch)
+    }
+
+    // What a call looks up in.
+    final fn context<'a, B: IdBooks>(
+        &self,
+        lists: &'a Lists<'_>,
+        books: &'a B,
+    ) -> BlockContext<'a, B>
+        ensures lists { used_of result.lists ≡ used_in (cells_of (numbers self.now) lists.now) }
+        ensures books { result.books.now ≡ books.now }
+    {
+        let counts = self.counts();
+        BlockContext {
+            lists: counts.used(lists),
+            books,
         }
+    }
+
+    // The checks of a call that makes a value. `found` is what the call itself looked for, and `room` is whether its own
+    // list, if it has one, has a free cell.
+    final fn expect_value<B: IdBooks, X: Copy>(
+        &self,
+        lists: &Lists<'_>,
+        books: &B,
+        id: u32,
+        found: Result<X, Error>,
+        room: bool,
+    ) -> Result<X, Error>
+        ensures checks { result ≡ value_checks (start self.now) (cells_of (numbers self.now) lists.now) (B.shelf books.now) id found room }
+        ensures fits { IfOk result (λ _. ValueFits (cells_of (numbers self.now) lists.now) (B.shelf books.now) id room) }
+    {
+        self.expect_inside(lists)?;
+        books.expect_new_value(unplaced(id))?;
+        let found = found?;
+        let count = self.counts().expressions;
+        let expressions = fits(count, 1, lists.expressions.len(), MAX_EXPRESSIONS);
+        expect(
+            room && (expressions && has_space(books.values())),
+            Error::Full,
+        )?;
+        Ok(found)
     }
 }
 
-impl Reading {
-    // Whether its numbers lie inside the lists, and the statement cell that is held for finish is there.
-    pub(crate) fn expect_inside(&self, lists: &Lists<'_>) -> Result<(), Error>
-        ensures { result ≡ check (not (state_inside (Some self.now.emitter.start_len) (cells_of self.now.counts lists.now))) Mismatch }
-    {
+impl ReaderState for AtRest {
+    ghost start = { λ _. None };
+
+    ghost numbers = { λ s. s.counts };
+
+    fn counts(&self) -> Counts {
+        self.counts
+    }
+
+    fn is_inside(&self, lists: &Lists<'_>) -> bool {
+        self.counts.inside(lists)
+    }
+}
+
+impl ReaderState for Reading {
+    ghost start = { λ s. Some s.emitter.start_len };
+
+    ghost numbers = { λ s. s.counts };
+
+    fn counts(&self) -> Counts {
+        self.counts
+    }
+
+    // The statement cell that is held for finish is there, too.
+    fn is_inside(&self, lists: &Lists<'_>) -> bool {
         let counts = self.counts;
-        let held = has_room(counts.statements, 1, lists.statements.len(), MAX_STATEMENTS);
-        if counts.inside(lists) && (self.emitter.start_len <= counts.expressions && held) {
-            Ok(())
-        } else {
-            Err(Error::Mismatch)
-        }
+        let held = fits(counts.statements, 1, lists.statements.len(), MAX_STATEMENTS);
+        counts.inside(lists) && (self.emitter.start_len <= counts.expressions && held)
     }
 }

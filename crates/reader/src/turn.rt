@@ -1,16 +1,15 @@
 // Set-up, start and finish: the turns from one state to the other.
 ghost use Rattle.std.specs.Prelude.{◌≡◌, if◌then◌else◌, Some, None, nat_lt};
-ghost use Rattle.memory.specs.Shelves.{Shelf, shelf_of};
+ghost use Rattle.memory.specs.Shelves.{Shelf};
 ghost use Rattle.memory.specs.Cells.{cells_of};
 ghost use Rattle.reader.specs.States.{at_rest, reading};
 ghost use Rattle.reader.specs.Turns.{set_up, start_checks, starts, after_start, emit, finishes, after_finish};
 
-use crate::states::{AtRest, Emitter, Reading};
-use books::{LookupHelper, is_empty};
-use memory::{Books, Counts, Lists, has_room};
-use records::{
-    EmitRange, Error, LookupExpression, LookupSampledImage, LookupType, MAX_STATEMENTS, Statement,
-};
+use crate::append::fits;
+use crate::states::{AtRest, Emitter, ReaderState, Reading};
+use books::is_empty;
+use memory::{Counts, IdBooks, Lists};
+use records::{EmitRange, Error, MAX_STATEMENTS, Statement, expect};
 
 const NO_COUNTS: Counts = Counts {
     types: 0,
@@ -27,31 +26,21 @@ impl Emitter {
     pub(crate) fn finish(&self, expressions: u32) -> Option<Statement>
         ensures { result ≡ (if nat_lt self.now.start_len expressions then Some (emit self.now.start_len expressions) else None) }
     {
-        let first = self.start_len;
-        if first < expressions {
-            Some(Statement::Emit(EmitRange {
-                first,
-                end: expressions,
-            }))
-        } else {
-            None
-        }
+        let range = EmitRange {
+            first: self.start_len,
+            end: expressions,
+        };
+        (range.first < range.end).then_some(Statement::Emit(range))
     }
 }
 
 // A reader at rest over empty lists and empty books.
-pub fn set_up<
-    T: LookupHelper<LookupType>,
-    V: LookupHelper<LookupExpression>,
-    C: LookupHelper<LookupSampledImage>,
->(books: &Books<T, V, C>) -> Result<AtRest, Error>
-    ensures { result ≡ set_up (shelf_of T.LookupHelper.book V.LookupHelper.book C.LookupHelper.book books.now) }
+pub fn set_up<B: IdBooks>(books: &B) -> Result<AtRest, Error>
+    ensures { result ≡ set_up (B.shelf books.now) }
 {
-    if is_empty(&books.types) && is_empty(&books.values) && is_empty(&books.couples) {
-        Ok(AtRest { counts: NO_COUNTS })
-    } else {
-        Err(Error::Mismatch)
-    }
+    let empty = is_empty(books.types()) && is_empty(books.values()) && is_empty(books.couples());
+    expect(empty, Error::Mismatch)?;
+    Ok(AtRest { counts: NO_COUNTS })
 }
 
 impl AtRest {
@@ -59,32 +48,27 @@ impl AtRest {
         ensures { result ≡ start_checks (cells_of self.now.counts lists.now) }
     {
         self.expect_inside(lists)?;
-        if has_room(
+        let room = fits(
             self.counts.statements,
             1,
             lists.statements.len(),
             MAX_STATEMENTS,
-        ) {
-            Ok(())
-        } else {
-            Err(Error::Full)
-        }
+        );
+        expect(room, Error::Full)
     }
 
     // Opens an emit range, for which one statement cell is held.
     pub fn start(self, lists: &Lists<'_>) -> Result<Reading, (AtRest, Error)>
         ensures { (books : Shelf) → after_start result lists.now books ≡ starts (at_rest self lists.now books) }
     {
-        let counts = self.counts;
-        match self.plan_start(lists) {
-            Ok(()) => {
-                let emitter = Emitter {
-                    start_len: counts.expressions,
-                };
-                Ok(Reading { counts, emitter })
-            }
-            Err(error) => Err((self, error)),
+        if let Err(error) = self.plan_start(lists) {
+            return Err((self, error));
         }
+        let counts = self.counts;
+        let emitter = Emitter {
+            start_len: counts.expressions,
+        };
+        Ok(Reading { counts, emitter })
     }
 }
 
@@ -93,21 +77,13 @@ impl Reading {
     pub fn finish(self, lists: &mut Lists<'_>) -> Result<AtRest, (Reading, Error)>
         ensures { (books : Shelf) → after_finish result lists.new books ≡ finishes (reading self lists.old books) }
     {
-        match self.expect_inside(lists) {
-            Ok(()) => {}
-            Err(error) => return Err((self, error)),
+        if let Err(error) = self.expect_inside(lists) {
+            return Err((self, error));
         }
-        let counts = self.counts;
-        match self.emitter.finish(counts.expressions) {
-            None => Ok(AtRest { counts }),
-            Some(statement) => {
-                lists.statements[counts.statements as usize] = statement;
-                let counts = Counts {
-                    statements: counts.statements + 1,
-                    ..counts
-                };
-                Ok(AtRest { counts })
-            }
-        }
+        let mut reader = self;
+        reader.close_range(lists);
+        Ok(AtRest {
+            counts: reader.counts,
+        })
     }
 }

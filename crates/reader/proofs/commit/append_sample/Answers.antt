@@ -1,13 +1,14 @@
-use Rattle.std.proofs.Common.{◌+◌, ap, rules}
-use Rattle.reader.proofs.Written.{sample_written}
+use Rattle.std.proofs.Common.{◌+◌, arith}
+use Rattle.images.specs.Records.{split_count, reference_count, one_or_two, sample_count}
+use Rattle.reader.specs.Writes.{Room}
+use Rattle.reader.proofs.Written.{room_left}
 use Rattle.reader.proofs.commit.append_sample.Goals as goal
 
-pub returns : goal.returns
-returns c =
-    sample_written c.args.used _ _ c.args.plan c.args.expressions.now _ _ _ _
-    (ap (λ n. c.args.used + n) c.count.ensures.value)
-    (ap (λ n. c.args.used + c.count.result + n) c.reference_count.ensures.value)
-    c.extract_image_coordinates-array_index.ensures.cells
-    c.divide_reference-depth_ref.ensures.cells
-    (search rules)
-    c.append_asking.ensures
+pub append_asking-handle-requires : goal.append_asking-handle-requires
+append_asking-handle-requires c =
+    let divided = reference_count c.args.plan.split c.args.plan.reference in
+    let asked = one_or_two c.args.plan.splat in
+    let room : Room c.extract_image_coordinates-array_index.new.arena (divided + asked) =
+    room_left _ _ _ (split_count c.args.plan.split) (divided + asked) (sample_count c.args.plan)
+    c.extract_image_coordinates-array_index.ensures.appended (omega arith) c.requires in
+    room_left _ _ _ divided asked (divided + asked) c.divide_reference-depth_ref.ensures.appended (omega arith) room

@@ -2,17 +2,10 @@ use Rattle.std.proofs.Common.{◌+◌, rules}
 use Rattle.memory.specs.declared.lists.Counts.{Counts}
 use Rattle.reader.proofs.states.Reading.commit_sample.Goals as goal
 
-pub returns : goal.returns
-returns g c =
-    let n : Counts = record {
-      types = c.args.self.counts.types;
-      variables = c.args.self.counts.variables;
-      arguments = c.args.self.counts.arguments;
-      constants = c.args.self.counts.constants;
-      expressions = c.args.self.counts.expressions + c.count-2.result;
-      statements = c.args.self.counts.statements;
-      brought = c.args.self.counts.brought;
-    } in
-    let image = c.mark.ensures n in
-    let sampler = c.mark-2.ensures n in
+pub returns-clause-state : goal.returns-clause-state
+returns-clause-state g c =
+    let before = c.args.self.now.counts in
+    let counts : Counts = record before { expressions = before.expressions + c.count.result } in
+    let image = c.mark.ensures counts in
+    let sampler = c.mark-2.ensures counts in
     search rules
