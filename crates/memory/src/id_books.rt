@@ -1,13 +1,15 @@
 // The three id books by their meaning: of types, of values, and of couples of an image and a sampler.
-ghost use Rattle.std.specs.Prelude.{◌≡◌, not, is_some, ◌&&◌, ◌||◌, ◌==◌, nat_le};
+ghost use Rattle.std.specs.Prelude.{◌≡◌, not, is_some, ◌&&◌, ◌||◌, length, ◌==◌, nat_le};
 ghost use Rattle.records.specs.declared.refusals.Error.TheVariants.{InvalidResultId};
 ghost use Rattle.records.specs.Refusals.{check};
 ghost use Rattle.books.specs.Books.{count, Puts};
 ghost use Rattle.memory.specs.Shelves.{Shelf, LawfulShelf};
-ghost use Rattle.memory.specs.Lookups.{new_type, new_value, new_couple, is_free};
+ghost use Rattle.memory.specs.Lookups.{new_type, new_value, new_couple, is_free, type_for, value_for};
 
+use crate::found::{FoundType, FoundValue};
 use books::LookupHelper;
 use records::{Error, LookupExpression, LookupSampledImage, LookupType, expect};
+use run::Lists as UsedLists;
 use words::IdRef;
 
 // Code that is generic over it knows of the books no more than `shelf` and its laws.
@@ -76,6 +78,35 @@ pub trait IdBooks {
         ensures { result ≡ check (not (new_value (shelf self.now) id.id)) (InvalidResultId id.place) }
     {
         expect(self.is_new_value(id.id), Error::InvalidResultId(id.place))
+    }
+
+    // The type of an id, whose word stands at a place.
+    final fn find_type(&self, lists: UsedLists<'_>, id: IdRef) -> Result<FoundType, Error>
+        ensures { result ≡ type_for lists.entry.types.now (shelf self.now) id.place id.id }
+    {
+        let IdRef { id, place } = id;
+        let lookup = self.types().find(id).ok_or(Error::InvalidId(place))?;
+        let inner = lists.type_at(lookup.handle).ok_or(Error::Mismatch)?;
+        Ok(FoundType {
+            handle: lookup.handle,
+            inner,
+        })
+    }
+
+    // The value of an id, whose word stands at a place.
+    final fn find_value(&self, lists: UsedLists<'_>, id: IdRef) -> Result<FoundValue, Error>
+        ensures { result ≡ value_for lists.entry.types.now (length lists.entry.expressions.now) (shelf self.now) id.place id.id }
+    {
+        let IdRef { id, place } = id;
+        let lookup = self.values().find(id).ok_or(Error::InvalidId(place))?;
+        let used = (lookup.handle.index as usize) < lists.expressions.len();
+        expect(used, Error::Mismatch)?;
+        let inner = lists.type_at(lookup.ty).ok_or(Error::Mismatch)?;
+        Ok(FoundValue {
+            handle: lookup.handle,
+            ty: lookup.ty,
+            inner,
+        })
     }
 }
 

@@ -81,13 +81,13 @@ impl Lane for bool {
 }
 
 // The lanes within a width, and zeros.
-pub fn fill<T: Lane>(width: Width, lanes: [T; 4]) -> [T; 4]
-    ensures { result ≡ fill T.ZERO width lanes }
+pub fn fill<T: Copy>(zero: T, width: Width, lanes: [T; 4]) -> [T; 4]
+    ensures { result ≡ fill zero width lanes }
 {
     match width {
-        Width::One => [lanes[0], T::ZERO, T::ZERO, T::ZERO],
-        Width::Two => [lanes[0], lanes[1], T::ZERO, T::ZERO],
-        Width::Three => [lanes[0], lanes[1], lanes[2], T::ZERO],
+        Width::One => [lanes[0], zero, zero, zero],
+        Width::Two => [lanes[0], lanes[1], zero, zero],
+        Width::Three => [lanes[0], lanes[1], lanes[2], zero],
         Width::Four => lanes,
     }
 }
@@ -105,6 +105,7 @@ pub(crate) fn choose_lanes<T: Lane>(width: Width, numbers: [u32; 4], lanes: [T; 
 {
     let [a, b, c, d] = numbers;
     fill(
+        T::ZERO,
         width,
         [
             lane_at(lanes, a),
@@ -124,7 +125,11 @@ pub(crate) fn map_lanes<A: Lane, B: Lane, F: Fn(A) -> B>(
     requires { F.IsAlwaysCallable f }
     ensures { (g : A → B) → ((x : A) (y : B) → F.post f x y → y ≡ g x) → result ≡ mapped A.ZERO B.ZERO g width lanes }
 {
-    fill(width, [f(lanes[0]), f(lanes[1]), f(lanes[2]), f(lanes[3])])
+    fill(
+        B::ZERO,
+        width,
+        [f(lanes[0]), f(lanes[1]), f(lanes[2]), f(lanes[3])],
+    )
 }
 
 // The first lanes of four scalars, put together.
@@ -132,6 +137,7 @@ pub(crate) fn compose_lanes<T: Lane>(width: Width, scalars: [Lanes; 4]) -> [T; 4
     ensures { result ≡ fill T.ZERO width (map T.first scalars) }
 {
     fill(
+        T::ZERO,
         width,
         [
             T::first(scalars[0]),
