@@ -46,8 +46,7 @@ type_handle c None = record { index = c.types.count }
 
 abbrev pub type_step : State → ℕ → TypeInner → Option ℕ → Step TypeHandle
 type_step s id t found = record {
-  state = record {
-    emitter = s.emitter;
+  state = record s {
     cells = type_placed s.cells t found;
     books = put_type s.books id (record { handle = type_handle s.cells found });
   };

@@ -63,45 +63,21 @@ read_checks emitter c b words =
     and_then (check (not (plan_room emitter c b p)) Full) (λ _.
     Ok (record { id = i.ids.result.id; plan = p })))))
 
--- more expressions
+-- n more expressions
 abbrev pub appended : Cells → List Expression → ℕ → Cells
-appended c es n = record {
-  brought = c.brought;
-  types = c.types;
-  variables = c.variables;
-  arguments = c.arguments;
-  constants = c.constants;
-  expressions = record { cells = written c.expressions.cells c.expressions.count es; count = c.expressions.count + n };
-  statements = c.statements;
-}
+appended c es n = record c { expressions = record { cells = written c.expressions.cells c.expressions.count es; count = c.expressions.count + n } }
 
 -- A flag goes to a variable or an argument.
 
 abbrev pub variable_with : SamplingFlags → GlobalVariable → GlobalVariable
-variable_with flag v = record { ty = v.ty; flags = union v.flags flag }
+variable_with flag v = record v { flags = union v.flags flag }
 
 abbrev pub argument_with : SamplingFlags → FunctionArgument → FunctionArgument
-argument_with flag a = record { ty = a.ty; flags = union a.flags flag }
+argument_with flag a = record a { flags = union a.flags flag }
 
 abbrev pub flagged : Cells → SamplingFlags → Root → Cells
-flagged c flag (Variable h) = record {
-  brought = c.brought;
-  types = c.types;
-  variables = record { cells = changed c.variables.cells h.index (variable_with flag); count = c.variables.count };
-  arguments = c.arguments;
-  constants = c.constants;
-  expressions = c.expressions;
-  statements = c.statements;
-}
-flagged c flag (Argument h) = record {
-  brought = c.brought;
-  types = c.types;
-  variables = c.variables;
-  arguments = record { cells = changed c.arguments.cells h.index (argument_with flag); count = c.arguments.count };
-  constants = c.constants;
-  expressions = c.expressions;
-  statements = c.statements;
-}
+flagged c flag (Variable h) = record c { variables = record c.variables { cells = changed c.variables.cells h.index (variable_with flag) } }
+flagged c flag (Argument h) = record c { arguments = record c.arguments { cells = changed c.arguments.cells h.index (argument_with flag) } }
 
 -- the last of one or two records
 abbrev pub last_of : Option VectorSize → ℕ
@@ -137,26 +113,25 @@ start_of (Some start) = start
 
 abbrev pub plan_step : State → ℕ → Plan → Step Answer
 plan_step s id (plans.Couple l) = record {
-  state = record { emitter = s.emitter; cells = s.cells; books = put_couple s.books id l };
+  state = record s { books = put_couple s.books id l };
   answer = Ok (answers.Couple l);
 }
 plan_step s id (plans.Sample p) =
     let l : LookupExpression = sample_lookup s.cells.expressions.count p in
     record {
-      state = record { emitter = s.emitter; cells = sample_cells s.cells p; books = put_value s.books id l };
+      state = record s { cells = sample_cells s.cells p; books = put_value s.books id l };
       answer = Ok (answers.Value l);
     }
 plan_step s id (plans.Load p) =
     let l : LookupExpression = load_lookup s.cells.expressions.count p in
     record {
-      state = record { emitter = s.emitter; cells = load_cells s.cells p; books = put_value s.books id l };
+      state = record s { cells = load_cells s.cells p; books = put_value s.books id l };
       answer = Ok (answers.Value l);
     }
 plan_step s id (plans.Store p) = record {
-  state = record {
+  state = record s {
     emitter = Some (s.cells.expressions.count + store_count p);
     cells = store_cells_after (start_of s.emitter) s.cells p;
-    books = s.books;
   };
   answer = Ok answers.Store;
 }

@@ -36,7 +36,7 @@ start_checks c =
 
 abbrev pub starts : State → Step (Unit {0})
 starts s = by_checks s (start_checks s.cells) (λ _. record {
-  state = record { emitter = Some s.cells.expressions.count; cells = s.cells; books = s.books };
+  state = record s { emitter = Some s.cells.expressions.count };
   answer = Ok tt;
 })
 
@@ -54,7 +54,7 @@ finish_checks (Some start) c = and_then (check (not (state_inside (Some start) c
 
 abbrev pub finishes : State → Step (Unit {0})
 finishes s = by_checks s (finish_checks s.emitter s.cells) (λ start. record {
-  state = record { emitter = None; cells = closed start s.cells; books = s.books };
+  state = record s { emitter = None; cells = closed start s.cells };
   answer = Ok tt;
 })
 

@@ -16,91 +16,35 @@ use Rattle.memory.specs.Cells.{pushed, Cells}
 use Rattle.reader.specs.States.{State, Step}
 
 abbrev pub push_type : Cells → TypeInner → Cells
-push_type c t = record {
-  brought = c.brought;
-  types = pushed c.types t;
-  variables = c.variables;
-  arguments = c.arguments;
-  constants = c.constants;
-  expressions = c.expressions;
-  statements = c.statements;
-}
+push_type c t = record c { types = pushed c.types t }
 
 abbrev pub push_variable : Cells → GlobalVariable → Cells
-push_variable c v = record {
-  brought = c.brought;
-  types = c.types;
-  variables = pushed c.variables v;
-  arguments = c.arguments;
-  constants = c.constants;
-  expressions = c.expressions;
-  statements = c.statements;
-}
+push_variable c v = record c { variables = pushed c.variables v }
 
 abbrev pub push_argument : Cells → FunctionArgument → Cells
-push_argument c a = record {
-  brought = c.brought;
-  types = c.types;
-  variables = c.variables;
-  arguments = pushed c.arguments a;
-  constants = c.constants;
-  expressions = c.expressions;
-  statements = c.statements;
-}
+push_argument c a = record c { arguments = pushed c.arguments a }
 
 abbrev pub push_constant : Cells → Constant → Cells
-push_constant c k = record {
-  brought = c.brought;
-  types = c.types;
-  variables = c.variables;
-  arguments = c.arguments;
-  constants = pushed c.constants k;
-  expressions = c.expressions;
-  statements = c.statements;
-}
+push_constant c k = record c { constants = pushed c.constants k }
 
 abbrev pub push_expression : Cells → Expression → Cells
-push_expression c e = record {
-  brought = c.brought;
-  types = c.types;
-  variables = c.variables;
-  arguments = c.arguments;
-  constants = c.constants;
-  expressions = pushed c.expressions e;
-  statements = c.statements;
-}
+push_expression c e = record c { expressions = pushed c.expressions e }
 
 abbrev pub push_statement : Cells → Statement → Cells
-push_statement c s = record {
-  brought = c.brought;
-  types = c.types;
-  variables = c.variables;
-  arguments = c.arguments;
-  constants = c.constants;
-  expressions = c.expressions;
-  statements = pushed c.statements s;
-}
+push_statement c s = record c { statements = pushed c.statements s }
 
 -- one value more was brought
 abbrev pub one_brought : Cells → Cells
-one_brought c = record {
-  brought = c.brought + 1;
-  types = c.types;
-  variables = c.variables;
-  arguments = c.arguments;
-  constants = c.constants;
-  expressions = c.expressions;
-  statements = c.statements;
-}
+one_brought c = record c { brought = c.brought + 1 }
 
 abbrev pub put_type : Shelf → ℕ → LookupType → Shelf
-put_type b id l = record { types = added b.types id l; values = b.values; couples = b.couples }
+put_type b id l = record b { types = added b.types id l }
 
 abbrev pub put_value : Shelf → ℕ → LookupExpression → Shelf
-put_value b id l = record { types = b.types; values = added b.values id l; couples = b.couples }
+put_value b id l = record b { values = added b.values id l }
 
 abbrev pub put_couple : Shelf → ℕ → LookupSampledImage → Shelf
-put_couple b id l = record { types = b.types; values = b.values; couples = added b.couples id l }
+put_couple b id l = record b { couples = added b.couples id l }
 
 -- the book record of a value
 abbrev pub lookup_at : ℕ → TypeHandle → LookupExpression
@@ -109,6 +53,6 @@ lookup_at n t = record { handle = record { index = n }; ty = t }
 -- A value more: its expression is appended, and the id names it. `c` has the lists with what else the call appends.
 abbrev pub named : State → ℕ → Cells → Expression → TypeHandle → Step LookupExpression
 named s id c e t = record {
-  state = record { emitter = s.emitter; cells = push_expression c e; books = put_value s.books id (lookup_at c.expressions.count t) };
+  state = record s { cells = push_expression c e; books = put_value s.books id (lookup_at c.expressions.count t) };
   answer = Ok (lookup_at c.expressions.count t);
 }
