@@ -28,19 +28,19 @@ impl Before<'_> {
         }
     }
 
-    pub fn is(self, operand: ExpressionHandle, wanted: TypeInner) -> bool
+    pub(crate) fn is(self, operand: ExpressionHandle, wanted: TypeInner) -> bool
         ensures { result ≡ is_of (known_by self.entry operand.index) wanted }
     {
         self.type_of(operand) == Some(wanted)
     }
 
-    pub fn is_integer(self, operand: ExpressionHandle) -> bool
+    pub(crate) fn is_integer(self, operand: ExpressionHandle) -> bool
         ensures { result ≡ is_int (known_by self.entry operand.index) Scalar }
     {
         is_integer_scalar(self.type_of(operand))
     }
 
-    pub fn is_integer_place(self, operand: ExpressionHandle, dim: ImageDimension) -> bool
+    pub(crate) fn is_integer_place(self, operand: ExpressionHandle, dim: ImageDimension) -> bool
         ensures { result ≡ is_int (known_by self.entry operand.index) (place_type dim) }
     {
         is_integer_place(self.type_of(operand), dim)

@@ -18,11 +18,12 @@ mod stores;
 mod types;
 mod worth;
 
+pub use before::Before;
 pub use laws::laws_stand;
 pub use lists::Lists;
 pub use passes::Halt;
 pub use requests::request_of;
-pub use rules::{is_integer_place, is_integer_scalar, place_type};
+pub use rules::{Miss, is_integer_place, is_integer_scalar, place_type};
 pub use runs::{Outcome, run};
 pub use statics::{is_depth, literal_type};
 pub use stores::store_request_of;
