@@ -13,7 +13,7 @@ use records::{
 
 impl Before<'_> {
     // There is a layer exactly if the image is arrayed.
-    pub fn layer_fits(self, arrayed: bool, layer: Option<ExpressionHandle>) -> bool
+    pub(crate) fn layer_fits(self, arrayed: bool, layer: Option<ExpressionHandle>) -> bool
         ensures { result ≡ layer_fits (known_by self.entry) arrayed layer }
     {
         match layer {
@@ -85,7 +85,7 @@ impl Before<'_> {
     }
 
     // What a sample or gather of an image comes to.
-    pub fn sample_type(self, e: Expression, ty: TypeInner) -> Result<TypeInner, Miss>
+    pub(crate) fn sample_type(self, e: Expression, ty: TypeInner) -> Result<TypeInner, Miss>
         ensures { result ≡ sample_type (known_by self.entry) e ty }
     {
         match ty {
@@ -98,7 +98,7 @@ impl Before<'_> {
         }
     }
 
-    pub fn load_type(self, e: Expression, ty: TypeInner) -> Result<TypeInner, Miss>
+    pub(crate) fn load_type(self, e: Expression, ty: TypeInner) -> Result<TypeInner, Miss>
         ensures { result ≡ load_type (known_by self.entry) e ty }
     {
         match ty {
@@ -121,7 +121,7 @@ impl Before<'_> {
         )
     }
 
-    pub fn compose_type(self, e: Expression, ty: TypeInner) -> Result<TypeInner, Miss>
+    pub(crate) fn compose_type(self, e: Expression, ty: TypeInner) -> Result<TypeInner, Miss>
         ensures { result ≡ compose_type (known_by self.entry) e.size e.components ty }
     {
         match ty {
