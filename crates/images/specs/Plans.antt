@@ -14,6 +14,7 @@ use Rattle.records.specs.declared.types.TypeInner.{TypeInner}
 use Rattle.records.specs.declared.types.TypeInner.TheVariants.{Sampler}
 use Rattle.records.specs.declared.types.VectorSize.TheVariants.{Quad}
 use Rattle.run.specs.Rules.{is_depth}
+use Rattle.run.specs.Types.{is_float, is_integer}
 use Rattle.records.specs.Types.{same_type}
 use Rattle.records.specs.Flags.{comparison, regular}
 use Rattle.records.specs.declared.flags.SamplingFlags.{SamplingFlags}
@@ -48,7 +49,7 @@ use Rattle.images.specs.declared.texels.Texel.{Texel}
 use Rattle.images.specs.Used.{Used}
 use Rattle.images.specs.Finds.{inner_at, image_type, resource_at, component_at}
 use Rattle.images.specs.Operands.{value_of, type_of, optional, operands_for, operands_fit, bias_fits, handle_of}
-use Rattle.images.specs.Places.{place_fits, split_for}
+use Rattle.images.specs.Places.{place_kind, place_fits, split_for}
 use Rattle.images.specs.Rules.{sampling_of, shape_of, sample_allows, load_allows, store_allows, sample_result, load_result_fits, stored_fits, vector_size}
 
 -- images: 10, blaming the image or sampled image
@@ -154,7 +155,7 @@ sample_fitted u i p =
     let shape : ImageShape = p.place.shape in
     and_then (operands_fit false shape.dim p.operands) (λ _.
     and_then (bias_fits p.reference) (λ _.
-    and_then (place_fits true p.place) (λ _.
+    and_then (place_fits (is_float (place_kind p.place)) p.place) (λ _.
     and_then (check (not (same_type p.result.inner (sample_result o shape.class))) (InvalidType i.ids.result_type.place)) (λ _.
     and_then (split_for u p.place) (λ s.
     Ok (sample_plan o p s))))))
@@ -202,7 +203,7 @@ abbrev pub load_fitted : Used → Instruction → LoadParts → Result LoadPlan 
 load_fitted u i p =
     let place : ImagePlace = p.texel.place in
     and_then (operands_fit true place.shape.dim p.operands) (λ _.
-    and_then (place_fits false place) (λ _.
+    and_then (place_fits (is_integer (place_kind place)) place) (λ _.
     and_then (check (not (load_result_fits place.shape.class p.result.inner)) (InvalidType i.ids.result_type.place)) (λ _.
     and_then (split_for u place) (λ s.
     Ok (load_plan p s)))))
@@ -230,7 +231,7 @@ store_plan p s = record {
 
 abbrev pub store_fitted : Used → StoreParts → Result StorePlan Error
 store_fitted u p =
-    and_then (place_fits false p.texel.place) (λ _.
+    and_then (place_fits (is_integer (place_kind p.texel.place)) p.texel.place) (λ _.
     and_then (split_for u p.texel.place) (λ s.
     Ok (store_plan p s)))
 

@@ -11,7 +11,7 @@ use Rattle.records.specs.declared.types.ImageClass.TheVariants.{Sampled, Depth, 
 use Rattle.records.specs.declared.types.TypeInner.{TypeInner}
 use Rattle.records.specs.declared.types.TypeInner.TheVariants.{Scalar, Vector, Image, BindingArray}
 use Rattle.records.specs.Types.{same_type, same_kind}
-use Rattle.run.specs.Types.{count_in, kind_in, class_kind, is_float, is_integer}
+use Rattle.run.specs.Types.{count_in, kind_in, class_kind, is_float}
 use Rattle.run.specs.Rules.{is_int, place_type, is_depth}
 use Rattle.words.specs.declared.opcodes.Opcode.{Opcode}
 use Rattle.words.specs.declared.opcodes.Opcode.TheVariants.{SampledImage, ImageSampleImplicitLod, ImageSampleExplicitLod, ImageSampleDrefImplicitLod, ImageSampleDrefExplicitLod, ImageSampleProjImplicitLod, ImageSampleProjExplicitLod, ImageSampleProjDrefImplicitLod, ImageSampleProjDrefExplicitLod, ImageFetch, ImageGather, ImageDrefGather, ImageRead, ImageWrite}
@@ -106,15 +106,13 @@ offset_fits d t = not (is_cube d) && is_int (Some t) (place_type d)
 abbrev pub is_integer_scalar : TypeInner → Bool
 is_integer_scalar t = is_int (Some t) Scalar
 
--- Coordinates: Floats for samples and gathers, integers for loads and stores; one component more where there is a layer or a
--- divisor.
+-- Coordinates have one component more where there is a layer or a divisor.
 
 abbrev pub one : Bool → ℕ
 one b = cond b 1 0
 
-abbrev pub coordinate_fits : Bool → ImageDimension → Bool → TypeInner → Bool
-coordinate_fits float d more t =
-    cond float (is_float (kind_in t)) (is_integer (kind_in t)) && nat_le (place_size d + one more) (count_in t)
+abbrev pub has_components : ImageDimension → Bool → TypeInner → Bool
+has_components d more t = nat_le (place_size d + one more) (count_in t)
 
 -- scalars and vectors
 abbrev pub is_number : TypeInner → Bool

@@ -9,7 +9,7 @@ use crate::plans::{LoadPlan, Split};
 use crate::texels::{Texel, find_texel};
 use memory::{BlockContext, FoundType, IdBooks};
 use records::{Error, expect};
-use run::is_depth;
+use run::{is_depth, is_integer};
 use words::Instruction;
 
 // What the ids of a load name.
@@ -69,7 +69,7 @@ fn fit_load<B: IdBooks>(
 {
     let place = parts.texel.place;
     parts.operands.expect_types(true, place.shape.dim)?;
-    place.expect_fits(false)?;
+    place.expect_fits(is_integer(place.kind()))?;
     let fits = load_result_fits(place.shape.class, parts.result.inner);
     expect(fits, Error::InvalidType(instruction.ids.result_type.place))?;
     let split = place.find_split(ctx)?;

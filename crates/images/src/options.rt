@@ -1,12 +1,12 @@
 // What each opcode does, which images it may use, and of which types its operands are.
 ghost use Rattle.std.specs.Prelude.{◌≡◌, not};
-ghost use Rattle.images.specs.Rules.{options, sampling_of, place_size, is_cube, gatherable, is_storage, comparable, shape_of, array_base, sample_allows, load_allows, store_allows, is_float_scalar, grad_fits, offset_fits, is_integer_scalar, coordinate_fits, is_number, sample_result, texel_type, load_result_fits, stored_fits, vector_size, composed_size};
+ghost use Rattle.images.specs.Rules.{options, sampling_of, place_size, is_cube, gatherable, is_storage, comparable, shape_of, array_base, sample_allows, load_allows, store_allows, is_float_scalar, grad_fits, offset_fits, is_integer_scalar, has_components, is_number, sample_result, texel_type, load_result_fits, stored_fits, vector_size, composed_size};
 ghost use Rattle.images.specs.Plans.{shape_for};
 
 use records::{Error, ImageClass, ImageDimension, ScalarKind, TypeHandle, TypeInner, VectorSize};
 use run::{
-    class_kind, count_in, is_depth, is_float, is_integer, is_integer_place, is_integer_scalar,
-    kind_in, place_type,
+    class_kind, count_in, is_depth, is_float, is_integer_place, is_integer_scalar, kind_in,
+    place_type,
 };
 use words::Opcode;
 
@@ -29,26 +29,44 @@ pub struct ImageShape {
     pub class: ImageClass,
 }
 
+fn projects(opcode: Opcode) -> bool
+    ensures { result ≡ (sampling_of opcode).project }
+{
+    matches!(
+        opcode,
+        Opcode::ImageSampleProjImplicitLod
+            | Opcode::ImageSampleProjExplicitLod
+            | Opcode::ImageSampleProjDrefImplicitLod
+            | Opcode::ImageSampleProjDrefExplicitLod
+    )
+}
+
+fn compares(opcode: Opcode) -> bool
+    ensures { result ≡ (sampling_of opcode).compare }
+{
+    matches!(
+        opcode,
+        Opcode::ImageSampleDrefImplicitLod
+            | Opcode::ImageSampleDrefExplicitLod
+            | Opcode::ImageSampleProjDrefImplicitLod
+            | Opcode::ImageSampleProjDrefExplicitLod
+            | Opcode::ImageDrefGather
+    )
+}
+
+fn gathers(opcode: Opcode) -> bool
+    ensures { result ≡ (sampling_of opcode).gather }
+{
+    matches!(opcode, Opcode::ImageGather | Opcode::ImageDrefGather)
+}
+
 pub fn sampling_of(opcode: Opcode) -> SamplingOptions
     ensures { result ≡ sampling_of opcode }
 {
     SamplingOptions {
-        project: matches!(
-            opcode,
-            Opcode::ImageSampleProjImplicitLod
-                | Opcode::ImageSampleProjExplicitLod
-                | Opcode::ImageSampleProjDrefImplicitLod
-                | Opcode::ImageSampleProjDrefExplicitLod
-        ),
-        compare: matches!(
-            opcode,
-            Opcode::ImageSampleDrefImplicitLod
-                | Opcode::ImageSampleDrefExplicitLod
-                | Opcode::ImageSampleProjDrefImplicitLod
-                | Opcode::ImageSampleProjDrefExplicitLod
-                | Opcode::ImageDrefGather
-        ),
-        gather: matches!(opcode, Opcode::ImageGather | Opcode::ImageDrefGather),
+        project: projects(opcode),
+        compare: compares(opcode),
+        gather: gathers(opcode),
     }
 }
 
@@ -195,17 +213,11 @@ pub fn offset_fits(dim: ImageDimension, ty: TypeInner) -> bool
     !is_cube(dim) && is_integer_place(Some(ty), dim)
 }
 
-// Whether a coordinate has the kind and the components that a place needs, and one more for a layer or a divisor.
-pub fn coordinate_fits(float: bool, dim: ImageDimension, more: bool, ty: TypeInner) -> bool
-    ensures { result ≡ coordinate_fits float dim more ty }
+// Whether a coordinate has the components that a place needs, and one more for a layer or a divisor.
+pub fn has_components(dim: ImageDimension, more: bool, ty: TypeInner) -> bool
+    ensures { result ≡ has_components dim more ty }
 {
-    let kind = kind_in(ty);
-    let right = if float {
-        is_float(kind)
-    } else {
-        is_integer(kind)
-    };
-    right && place_size(dim) + u32::from(more) <= count_in(ty)
+    place_size(dim) + u32::from(more) <= count_in(ty)
 }
 
 fn is_number(ty: TypeInner) -> bool

@@ -1,12 +1,12 @@
 // A place in an image: whether a coordinate fits it, and how it is taken apart.
 ghost use Rattle.std.specs.Prelude.{◌≡◌};
-ghost use Rattle.images.specs.Places.{has_more, extra_of, place_fits, composed, vector_for, split_for};
+ghost use Rattle.images.specs.Places.{has_more, extra_of, place_kind, place_fits, composed, vector_for, split_for};
 ghost use Rattle.images.specs.Used.{used_of};
 
-use crate::options::{ImageShape, composed_size, coordinate_fits, place_size};
+use crate::options::{ImageShape, composed_size, has_components, place_size};
 use crate::plans::{ExtraCoordinate, Split};
 use memory::{BlockContext, FoundValue, IdBooks};
-use records::{Error, TypeHandle, TypeInner, VectorSize, expect};
+use records::{Error, ScalarKind, TypeHandle, TypeInner, VectorSize, expect};
 use run::{count_in, is_float, kind_in};
 
 #[derive(Clone, Copy)]
@@ -40,17 +40,19 @@ impl ImagePlace {
         }
     }
 
-    // The coordinate has to have components enough, Floats or integers.
-    pub fn expect_fits(self, float: bool) -> Result<(), Error>
-        ensures { result ≡ place_fits float self }
+    // The kind of the coordinate: Float for samples and gathers, an integer for loads and stores.
+    pub fn kind(self) -> ScalarKind
+        ensures { result ≡ place_kind self }
     {
-        let fits = coordinate_fits(
-            float,
-            self.shape.dim,
-            self.has_more(),
-            self.coordinate.inner,
-        );
-        expect(fits, Error::InvalidCoordinate(self.word))
+        kind_in(self.coordinate.inner)
+    }
+
+    // The coordinate has to be of a right kind, and to have components enough.
+    pub fn expect_fits(self, kind_right: bool) -> Result<(), Error>
+        ensures { result ≡ place_fits kind_right self }
+    {
+        let wide = has_components(self.shape.dim, self.has_more(), self.coordinate.inner);
+        expect(kind_right && wide, Error::InvalidCoordinate(self.word))
     }
 
     // The size of the vector that the place is put together to, if it is.
@@ -71,7 +73,7 @@ impl ImagePlace {
         let Some(size) = self.composed() else {
             return Ok(TypeHandle { index: 0 });
         };
-        let kind = kind_in(self.coordinate.inner);
+        let kind = self.kind();
         let found = ctx.first_equal(TypeInner::Vector { size, kind });
         let vector = found.map(|index| TypeHandle { index });
         vector.ok_or(Error::MissingType(self.word))
@@ -87,7 +89,7 @@ impl ImagePlace {
             base: coordinate.handle,
             dim,
             extra: self.extra(),
-            float: is_float(kind_in(coordinate.inner)),
+            float: is_float(self.kind()),
             exact: count_in(coordinate.inner) == place_size(dim),
             vector,
         })

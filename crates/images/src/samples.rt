@@ -16,7 +16,7 @@ use records::{
     Error, LookupSampledImage, SampleLevel, SamplingFlags, SwizzleComponent, TypeInner, VectorSize,
     expect,
 };
-use run::is_depth;
+use run::{is_depth, is_float};
 use units::Root;
 use words::{IdRef, Instruction, Layout};
 
@@ -133,11 +133,9 @@ impl SamplingOptions {
             return SampleLevel::Bias(bias.value.handle);
         }
         if self.compare {
-            let stated = operands.lod.is_some() || operands.grad.is_some();
-            return if stated {
-                SampleLevel::Zero
-            } else {
-                SampleLevel::Auto
+            return match (operands.lod, operands.grad) {
+                (None, None) => SampleLevel::Auto,
+                _ => SampleLevel::Zero,
             };
         }
         match operands.lod {
@@ -190,7 +188,7 @@ fn fit_sample<B: IdBooks>(
     let place = parts.place;
     parts.operands.expect_types(false, place.shape.dim)?;
     expect_float(parts.reference)?;
-    place.expect_fits(true)?;
+    place.expect_fits(is_float(place.kind()))?;
     let fits = parts.result.inner == options.result(place.shape.class);
     expect(fits, Error::InvalidType(instruction.ids.result_type.place))?;
     let split = place.find_split(ctx)?;

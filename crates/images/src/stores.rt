@@ -8,6 +8,7 @@ use crate::plans::{Split, StorePlan};
 use crate::texels::{Texel, find_texel};
 use memory::{BlockContext, FoundValue, IdBooks};
 use records::{Error, expect};
+use run::is_integer;
 use words::Instruction;
 
 // What the ids of a store name.
@@ -50,7 +51,7 @@ fn fit_store<B: IdBooks>(ctx: &BlockContext<'_, B>, parts: StoreParts) -> Result
     ensures { result ≡ store_fitted (used_of ctx.now.lists) parts }
 {
     let place = parts.texel.place;
-    place.expect_fits(false)?;
+    place.expect_fits(is_integer(place.kind()))?;
     let split = place.find_split(ctx)?;
     Ok(parts.plan(split))
 }

@@ -7,11 +7,11 @@ use Rattle.records.specs.declared.types.ScalarKind.{ScalarKind}
 use Rattle.records.specs.declared.types.ScalarKind.TheVariants.{Sint, Float}
 use Rattle.records.specs.declared.types.ImageDimension.{ImageDimension}
 use Rattle.records.specs.declared.types.TypeInner.{TypeInner}
-use Rattle.records.specs.declared.types.TypeInner.TheVariants.{Scalar, Vector, Image, Sampler, BindingArray}
+use Rattle.records.specs.declared.types.TypeInner.TheVariants.{Scalar, Image, Sampler}
 use Rattle.records.specs.declared.expressions.SampleLevel.{SampleLevel}
 use Rattle.records.specs.declared.expressions.SampleLevel.TheVariants as sampling
 use Rattle.records.specs.declared.expressions.ExpressionTag.{ExpressionTag}
-use Rattle.records.specs.declared.expressions.ExpressionTag.TheVariants.{GlobalVariable, FunctionArgument, Constant, Supplied, Access, AccessIndex, Compose, Splat, Swizzle, Divide, Round, As, ImageSample, ImageLoad}
+use Rattle.records.specs.declared.expressions.ExpressionTag.TheVariants.{ImageSample, ImageLoad}
 use Rattle.records.specs.declared.expressions.Expression.{Expression}
 use Rattle.units.specs.declared.values.Components.{Components}
 use Rattle.units.specs.declared.values.Value.{Value}
@@ -122,39 +122,22 @@ module _ (vs us : List Value) where
 
   sample_of : (e : Expression) (t u : TypeInner) → option_is_some (types_of vs e.base.index) ≡ true → Of t (sample_type (types_of vs) e u)
       → sample_request (value_at (vs ++ us)) e ≡ sample_request (value_at vs) e
-  sample_of e t (Scalar k) some h = absurd h
-  sample_of e t (Vector s k) some h = absurd h
   sample_of e t (Image d a c) some h = sample_again e d a some (of_test _ _ t h).0
-  sample_of e t Sampler some h = absurd h
-  sample_of e t (BindingArray b) some h = absurd h
+  sample_of e t _ some h = absurd h
 
   load_of : (e : Expression) (t u : TypeInner) → option_is_some (types_of vs e.base.index) ≡ true → Of t (load_type (types_of vs) e u)
       → load_request (value_at (vs ++ us)) e ≡ load_request (value_at vs) e
-  load_of e t (Scalar k) some h = absurd h
-  load_of e t (Vector s k) some h = absurd h
   load_of e t (Image d a c) some h = load_again e d a some (of_test _ _ t h).0
-  load_of e t Sampler some h = absurd h
-  load_of e t (BindingArray b) some h = absurd h
+  load_of e t _ some h = absurd h
 
   tag_again : (env : Env) (e : Expression) (t : TypeInner) (tag : ExpressionTag)
       → Of t (otherwise (leaf_rule env (types_of vs) e tag) (known (types_of vs e.base.index) (λ b. made_of env (types_of vs) e b tag)))
       → request_tag (value_at (vs ++ us)) e tag ≡ request_tag (value_at vs) e tag
-  tag_again env e t GlobalVariable h = refl
-  tag_again env e t FunctionArgument h = refl
-  tag_again env e t Constant h = refl
-  tag_again env e t Supplied h = refl
-  tag_again env e t Access h = refl
-  tag_again env e t AccessIndex h = refl
-  tag_again env e t Compose h = refl
-  tag_again env e t Splat h = refl
-  tag_again env e t Swizzle h = refl
-  tag_again env e t Divide h = refl
-  tag_again env e t Round h = refl
-  tag_again env e t As h = refl
   tag_again env e t ImageSample h =
       ap Some (sample_of e t _ (known_some (types_of vs e.base.index) _ t h) (of_known vs e.base.index (sample_type (types_of vs) e) t h))
   tag_again env e t ImageLoad h =
       ap Some (load_of e t _ (known_some (types_of vs e.base.index) _ t h) (of_known vs e.base.index (load_type (types_of vs) e) t h))
+  tag_again env e t _ h = refl
 
   -- of an expression that was fine by the values before it
   pub request_again : (env : Env) (e : Expression) (t : TypeInner) → seen env (types_of vs) e ≡ Ok t → request_of (value_at (vs ++ us)) e ≡ request_of (value_at vs) e
@@ -163,20 +146,9 @@ module _ (vs us : List Value) where
 -- an expression that makes a request is worth the answer to it
 answer_there : (env : Env) (answers : Answers) (ins : ℕ → Components) (at : Values) (e : Expression) (q : Request) (tag : ExpressionTag)
     → request_tag at e tag ≡ Some q → worth_tag env answers ins at e tag ≡ Number (answers q)
-answer_there env answers ins at e q GlobalVariable is = absurd (false≢true (ap option_is_some is))
-answer_there env answers ins at e q FunctionArgument is = absurd (false≢true (ap option_is_some is))
-answer_there env answers ins at e q Constant is = absurd (false≢true (ap option_is_some is))
-answer_there env answers ins at e q Supplied is = absurd (false≢true (ap option_is_some is))
-answer_there env answers ins at e q Access is = absurd (false≢true (ap option_is_some is))
-answer_there env answers ins at e q AccessIndex is = absurd (false≢true (ap option_is_some is))
-answer_there env answers ins at e q Compose is = absurd (false≢true (ap option_is_some is))
-answer_there env answers ins at e q Splat is = absurd (false≢true (ap option_is_some is))
-answer_there env answers ins at e q Swizzle is = absurd (false≢true (ap option_is_some is))
-answer_there env answers ins at e q Divide is = absurd (false≢true (ap option_is_some is))
-answer_there env answers ins at e q Round is = absurd (false≢true (ap option_is_some is))
-answer_there env answers ins at e q As is = absurd (false≢true (ap option_is_some is))
 answer_there env answers ins at e q ImageSample is = ap (λ o. Number (answers (unwrap_or o q))) is
 answer_there env answers ins at e q ImageLoad is = ap (λ o. Number (answers (unwrap_or o q))) is
+answer_there env answers ins at e q _ is = absurd (false≢true (ap option_is_some is))
 
 -- the values of a run, from those before its first expression and one of these: the request of that one stays
 module _ (env : Env) (w : Values → Expression → Value) (e : Expression) (es : List Expression) (vs us : List Value) (is : run_over env w vs (e ∷ es) ≡ Progress.Went us) where

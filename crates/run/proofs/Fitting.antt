@@ -3,7 +3,7 @@ use Rattle.std.proofs.Common.{◌≡◌, ℕ, suc, ◌+◌, List, [], ◌∷◌,
 use Rattle.std.proofs.lemmas.Bool.{false≢true}
 use Rattle.records.specs.declared.types.TypeInner.{TypeInner}
 use Rattle.records.specs.declared.expressions.ExpressionTag.{ExpressionTag}
-use Rattle.records.specs.declared.expressions.ExpressionTag.TheVariants.{GlobalVariable, FunctionArgument, Constant, Supplied, Access, AccessIndex, Compose, Splat, Swizzle, Divide, Round, As, ImageSample, ImageLoad}
+use Rattle.records.specs.declared.expressions.ExpressionTag.TheVariants.{Supplied}
 use Rattle.records.specs.declared.expressions.Expression.{Expression}
 use Rattle.units.specs.declared.values.Components.{Components}
 use Rattle.run.specs.declared.passes.Halt.{Halt}
@@ -31,20 +31,8 @@ by_type (Some t) p input keeps is = ap (λ o. input_halt_by o input) (keeps t re
 
 module _ (env env' : Env) (grows : Grows env env') (ins : List Components) where
   input_stays : (e : Expression) (tag : ExpressionTag) → input_halt env ins e tag ≡ None → input_halt env' ins e tag ≡ None
-  input_stays e GlobalVariable is = refl
-  input_stays e FunctionArgument is = refl
-  input_stays e Constant is = refl
   input_stays e Supplied is = by_type _ _ (input_type ins e.index) (grows.types e.ty.index) is
-  input_stays e Access is = refl
-  input_stays e AccessIndex is = refl
-  input_stays e Compose is = refl
-  input_stays e Splat is = refl
-  input_stays e Swizzle is = refl
-  input_stays e Divide is = refl
-  input_stays e Round is = refl
-  input_stays e As is = refl
-  input_stays e ImageSample is = refl
-  input_stays e ImageLoad is = refl
+  input_stays e _ is = refl
 
   all_stay : (i : ℕ) (es : List Expression) → first_halt (λ _ (e : Expression). input_halt env ins e e.tag) i es ≡ None
       → first_halt (λ _ (e : Expression). input_halt env' ins e e.tag) i es ≡ None

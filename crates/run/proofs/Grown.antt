@@ -6,11 +6,11 @@ use Rattle.records.specs.declared.handles.TypeHandle.{TypeHandle}
 use Rattle.records.specs.declared.handles.ExpressionHandle.{ExpressionHandle}
 use Rattle.records.specs.declared.types.VectorSize.{VectorSize}
 use Rattle.records.specs.declared.types.TypeInner.{TypeInner}
-use Rattle.records.specs.declared.types.TypeInner.TheVariants.{Scalar, Vector, Image, Sampler, BindingArray}
+use Rattle.records.specs.declared.types.TypeInner.TheVariants.{Scalar, Sampler, BindingArray}
 use Rattle.records.specs.declared.expressions.SampleLevel.{SampleLevel}
-use Rattle.records.specs.declared.expressions.SampleLevel.TheVariants.{Auto, Zero, Exact, Bias, Gradient}
+use Rattle.records.specs.declared.expressions.SampleLevel.TheVariants.{Exact, Bias, Gradient}
 use Rattle.records.specs.declared.expressions.ExpressionTag.{ExpressionTag}
-use Rattle.records.specs.declared.expressions.ExpressionTag.TheVariants.{GlobalVariable, FunctionArgument, Constant, Supplied, Access, AccessIndex, Compose, Splat, Swizzle, Divide, Round, As, ImageSample, ImageLoad}
+use Rattle.records.specs.declared.expressions.ExpressionTag.TheVariants.{GlobalVariable, FunctionArgument, Constant, Supplied, Access, Compose, Divide, ImageSample, ImageLoad}
 use Rattle.records.specs.declared.expressions.Expression.{Expression}
 use Rattle.units.specs.declared.values.Components.{Components}
 use Rattle.units.specs.declared.values.Root.TheVariants.{Variable, Argument}
@@ -90,11 +90,10 @@ module _ (env env' : Env) (grows : Grows env env') where
   option_holds (Some h) is = one_holds h is
 
   level_holds : (l : SampleLevel) → Holds (inside_level env l) (inside_level env' l)
-  level_holds Auto is = refl
-  level_holds Zero is = refl
   level_holds (Exact h) is = one_holds h is
   level_holds (Bias h) is = one_holds h is
   level_holds (Gradient x y) is = and_holds (inside_one env x) (inside_one env y) _ _ (one_holds x) (one_holds y) is
+  level_holds _ is = refl
 
   components_hold : (size : VectorSize) (cs : List ExpressionHandle) → Holds (inside_components env size cs) (inside_components env' size cs)
   components_hold size cs =
@@ -115,15 +114,11 @@ module _ (env env' : Env) (grows : Grows env env') where
   tag_holds e Constant = some_holds _ _ (grows.constants e.constant.index)
   tag_holds e Supplied = some_holds _ _ (grows.types e.ty.index)
   tag_holds e Access = and_holds _ _ _ _ (one_holds e.base) (one_holds e.other)
-  tag_holds e AccessIndex = one_holds e.base
   tag_holds e Compose = and_holds _ _ _ _ (some_holds _ _ (grows.types e.ty.index)) (components_hold e.size e.components)
-  tag_holds e Splat = one_holds e.base
-  tag_holds e Swizzle = one_holds e.base
   tag_holds e Divide = and_holds _ _ _ _ (one_holds e.base) (one_holds e.other)
-  tag_holds e Round = one_holds e.base
-  tag_holds e As = one_holds e.base
   tag_holds e ImageSample = and_holds _ _ _ _ (one_holds e.other) (image_holds e)
   tag_holds e ImageLoad = image_holds e
+  tag_holds e _ = one_holds e.base
 
   result_holds : (o : Option TypeHandle) → Holds (inside_result env o) (inside_result env' o)
   result_holds None is = refl
@@ -138,27 +133,12 @@ module _ (env env' : Env) (grows : Grows env env') where
   resource_stays o p keeps = listed_stays o p _ _ keeps (λ h. type_stays h.index (λ u. fine (texture_type u)))
 
   element_stays : (base i : TypeInner) → Stays (element env base i) (element env' base i)
-  element_stays (Scalar k) i t h = absurd h
-  element_stays (Vector s k) i t h = absurd h
-  element_stays (Image d a c) i t h = absurd h
-  element_stays Sampler i t h = absurd h
   element_stays (BindingArray b) i t h = guard_stays (is_int (Some i) Scalar) _ _ (type_stays b.index (λ u. fine (texture_type u))) t h
+  element_stays _ i t h = absurd h
 
   made_stays : (tys : Known) (e : Expression) (base : TypeInner) (tag : ExpressionTag) → Stays (made_of env tys e base tag) (made_of env' tys e base tag)
-  made_stays tys e base GlobalVariable t h = h
-  made_stays tys e base FunctionArgument t h = h
-  made_stays tys e base Constant t h = h
-  made_stays tys e base Supplied t h = h
   made_stays tys e base Access t h = known_stays (tys e.other.index) (element env base) (element env' base) (element_stays base) t h
-  made_stays tys e base AccessIndex t h = h
-  made_stays tys e base Compose t h = h
-  made_stays tys e base Splat t h = h
-  made_stays tys e base Swizzle t h = h
-  made_stays tys e base Divide t h = h
-  made_stays tys e base Round t h = h
-  made_stays tys e base As t h = h
-  made_stays tys e base ImageSample t h = h
-  made_stays tys e base ImageLoad t h = h
+  made_stays tys e base _ t h = h
 
   rule_stays : (tys : Known) (e : Expression) (tag : ExpressionTag)
       → Stays (otherwise (leaf_rule env tys e tag) (known (tys e.base.index) (λ base. made_of env tys e base tag)))
@@ -168,15 +148,8 @@ module _ (env env' : Env) (grows : Grows env env') where
   rule_stays tys e Constant t h = listed_stays _ _ _ _ (grows.constants e.constant.index) (λ l t h. h) t h
   rule_stays tys e Supplied t h = type_stays e.ty.index _ t h
   rule_stays tys e Access t h = known_stays (tys e.base.index) _ _ (λ u. made_stays tys e u Access) t h
-  rule_stays tys e AccessIndex t h = h
   rule_stays tys e Compose t h = type_stays e.ty.index _ t h
-  rule_stays tys e Splat t h = h
-  rule_stays tys e Swizzle t h = h
-  rule_stays tys e Divide t h = h
-  rule_stays tys e Round t h = h
-  rule_stays tys e As t h = h
-  rule_stays tys e ImageSample t h = h
-  rule_stays tys e ImageLoad t h = h
+  rule_stays tys e _ t h = h
 
   fits_stays : (o : Option TypeHandle) (u : TypeInner) → Stays (result_fits env o u) (result_fits env' o u)
   fits_stays None u t h = h
@@ -209,11 +182,8 @@ module _ (env env' : Env) (grows : Grows env env') where
       inner false o p keeps h = absurd h
 
       by : (u : TypeInner) → Of t (element env (as_handle u) i) → element_type env u ≡ element_type env' u
-      by (Scalar k) h = refl
-      by (Vector s k) h = refl
-      by (Image d a c) h = refl
-      by Sampler h = refl
       by (BindingArray b) h = inner (is_int (Some i) Scalar) (env.types b.index) (env'.types b.index) (grows.types b.index) h
+      by _ h = refl
 
   element_same : (base index : Value) → element_type env (texture_type_of base) ≡ element_type env' (texture_type_of base)
       → element_of env base index ≡ element_of env' base index
@@ -227,21 +197,12 @@ module _ (env env' : Env) (grows : Grows env env') where
     tag_same vs e t FunctionArgument h = ap (whole (Argument e.argument)) (type_by_same _ _ t (grows.arguments e.argument.index) h)
     tag_same vs e t Constant h =
         ap (λ o. Number (unwrap_or (option_map literal_components o) no_components)) (listed_same _ _ _ t (grows.constants e.constant.index) h)
-    tag_same vs e t Supplied h = refl
     tag_same vs e t Access h =
         let base = value_at vs e.base.index in
         element_same base (value_at vs e.other.index)
         (element_type_same base _ t
         (of_known vs e.other.index (element env (type_of base)) t (of_known vs e.base.index (λ u. made_of env (types_of vs) e u Access) t h)))
-    tag_same vs e t AccessIndex h = refl
-    tag_same vs e t Compose h = refl
-    tag_same vs e t Splat h = refl
-    tag_same vs e t Swizzle h = refl
-    tag_same vs e t Divide h = refl
-    tag_same vs e t Round h = refl
-    tag_same vs e t As h = refl
-    tag_same vs e t ImageSample h = refl
-    tag_same vs e t ImageLoad h = refl
+    tag_same vs e t _ h = refl
 
     -- where a type is seen
     pub worth_grows : (vs : List Value) (e : Expression) (t : TypeInner) → seen env (types_of vs) e ≡ Ok t

@@ -65,17 +65,12 @@ of_number : (o : Option TypeInner) → Gives (listed o (λ t. fine (number_type 
 of_number None = of_outside None
 of_number (Some (Scalar k)) = of_fine (Scalar k)
 of_number (Some (Vector s k)) = of_fine (Vector s k)
-of_number (Some (Image d a c)) = of_lacking _
-of_number (Some Sampler) = of_lacking _
-of_number (Some (BindingArray b)) = of_lacking _
+of_number _ = of_lacking _
 
 of_compose : (tys : Known) (e : Expression) (o : Option TypeInner) → Gives (listed o (compose_type tys e.size e.components)) o
 of_compose tys e None = of_outside None
-of_compose tys e (Some (Scalar k)) = of_lacking _
 of_compose tys e (Some (Vector s k)) = of_test _ (Vector s k)
-of_compose tys e (Some (Image d a c)) = of_lacking _
-of_compose tys e (Some Sampler) = of_lacking _
-of_compose tys e (Some (BindingArray b)) = of_lacking _
+of_compose tys e _ = of_lacking _
 
 -- then those that are made of a base
 
@@ -89,70 +84,43 @@ of_guard false s o g = of_lacking o
 
 of_element : (env : Env) (base : TypeInner) (i : Option TypeInner) → Gives (known i (element env base)) (element_type env base)
 of_element env base None = of_lacking _
-of_element env (Scalar k) (Some i) = of_lacking _
-of_element env (Vector s k) (Some i) = of_lacking _
-of_element env (Image d a c) (Some i) = of_lacking _
-of_element env Sampler (Some i) = of_lacking _
 of_element env (BindingArray b) (Some i) = of_guard _ _ _ (of_texture (env.types b.index))
+of_element env _ (Some i) = of_lacking _
 
 of_part : (e : Expression) (base : TypeInner) → Gives (fine (part_type e.index base)) (Some (Scalar (kind_in base)))
-of_part e (Scalar k) = of_lacking _
 of_part e (Vector s k) = of_when _ (Scalar k)
-of_part e (Image d a c) = of_lacking _
-of_part e Sampler = of_lacking _
-of_part e (BindingArray b) = of_lacking _
+of_part e _ = of_lacking _
 
 of_splat : (e : Expression) (base : TypeInner) → Gives (fine (splat_type e.size base)) (Some (Vector e.size (kind_in base)))
 of_splat e (Scalar k) = of_fine (Vector e.size k)
-of_splat e (Vector s k) = of_lacking _
-of_splat e (Image d a c) = of_lacking _
-of_splat e Sampler = of_lacking _
-of_splat e (BindingArray b) = of_lacking _
+of_splat e _ = of_lacking _
 
 of_swizzle : (e : Expression) (base : TypeInner) → Gives (fine (swizzle_type e.size e.pattern base)) (Some (Vector e.size (kind_in base)))
-of_swizzle e (Scalar k) = of_lacking _
 of_swizzle e (Vector s k) = of_when _ (Vector e.size k)
-of_swizzle e (Image d a c) = of_lacking _
-of_swizzle e Sampler = of_lacking _
-of_swizzle e (BindingArray b) = of_lacking _
+of_swizzle e _ = of_lacking _
 
 of_cast : (base : TypeInner) → Gives (fine (cast_type base)) (Some (Scalar Sint))
 of_cast (Scalar k) = of_when (castable k) (Scalar Sint)
-of_cast (Vector s k) = of_lacking _
-of_cast (Image d a c) = of_lacking _
-of_cast Sampler = of_lacking _
-of_cast (BindingArray b) = of_lacking _
+of_cast _ = of_lacking _
 
 of_sample : (tys : Known) (e : Expression) (base : TypeInner) → Gives (sample_type tys e base) (sampled_type e base)
-of_sample tys e (Scalar k) = of_lacking _
-of_sample tys e (Vector s k) = of_lacking _
 of_sample tys e (Image d a c) = of_test _ _
-of_sample tys e Sampler = of_lacking _
-of_sample tys e (BindingArray b) = of_lacking _
+of_sample tys e _ = of_lacking _
 
 of_load : (tys : Known) (e : Expression) (base : TypeInner) → Gives (load_type tys e base) (loaded_type base)
-of_load tys e (Scalar k) = of_lacking _
-of_load tys e (Vector s k) = of_lacking _
 of_load tys e (Image d a c) = of_test _ _
-of_load tys e Sampler = of_lacking _
-of_load tys e (BindingArray b) = of_lacking _
+of_load tys e _ = of_lacking _
 
 of_made : (env : Env) (tys : Known) (e : Expression) (base : TypeInner) (tag : ExpressionTag)
     → Gives (made_of env tys e base tag) (static_tag env (Some base) e tag)
-of_made env tys e base GlobalVariable = of_lacking _
-of_made env tys e base FunctionArgument = of_lacking _
-of_made env tys e base Constant = of_lacking _
-of_made env tys e base Supplied = of_lacking _
 of_made env tys e base Access = of_element env base (tys e.other.index)
 of_made env tys e base AccessIndex = of_part e base
-of_made env tys e base Compose = of_lacking _
 of_made env tys e base Splat = of_splat e base
 of_made env tys e base Swizzle = of_swizzle e base
-of_made env tys e base Divide = of_lacking _
-of_made env tys e base Round = of_lacking _
 of_made env tys e base As = of_cast base
 of_made env tys e base ImageSample = of_sample tys e base
 of_made env tys e base ImageLoad = of_load tys e base
+of_made env tys e base _ = of_lacking _
 
 of_known : (env : Env) (tys : Known) (e : Expression) (tag : ExpressionTag) (o : Option TypeInner)
     → Gives (known o (λ base. made_of env tys e base tag)) (static_tag env o e tag)

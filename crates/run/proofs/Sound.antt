@@ -136,11 +136,9 @@ kind_scalar (Texture r) k e = absurd (false≢true (handle_scalar r.ty k e))
 
 no_handle : (f : TypeInner → Sight) (u t : TypeInner) → ((d : ImageDimension) (a : Bool) (c : ImageClass) → Of t (f (Image d a c)) → ⊥)
     → (Of t (f Sampler) → ⊥) → ((b : TypeHandle) → Of t (f (BindingArray b)) → ⊥) → Of t (f (as_handle u)) → ⊥
-no_handle f (Scalar k) t image sampler array h = sampler h
-no_handle f (Vector s k) t image sampler array h = sampler h
 no_handle f (Image d a c) t image sampler array h = image d a c h
-no_handle f Sampler t image sampler array h = sampler h
 no_handle f (BindingArray b) t image sampler array h = array b h
+no_handle f _ t image sampler array h = sampler h
 
 no_number : (f : TypeInner → Sight) (c : Components) (t : TypeInner) → ((k : ScalarKind) → Of t (f (Scalar k)) → ⊥)
     → ((s : VectorSize) (k : ScalarKind) → Of t (f (Vector s k)) → ⊥) → Of t (f (type_of (Number c))) → ⊥
@@ -168,9 +166,7 @@ constant_of (Some (F32 x)) t h = h
 handle_of : (u t : TypeInner) → Of t (fine (texture_type u)) → as_handle u ≡ t
 handle_of (Scalar k) t h = absurd h
 handle_of (Vector s k) t h = absurd h
-handle_of (Image d a c) t h = h
-handle_of Sampler t h = h
-handle_of (BindingArray b) t h = h
+handle_of _ t h = h
 
 listed_of : (o : Option TypeInner) (t : TypeInner) → Of t (listed o (λ u. fine (texture_type u))) → as_handle (unwrap_or o Sampler) ≡ t
 listed_of None t h = absurd h
@@ -190,11 +186,8 @@ element_of_holds env (Texture r) i t h = by r.ty h
     inner false o h = absurd h
 
     by : (u : TypeInner) → Of t (element env (as_handle u) i) → as_handle (unwrap_or (element_type env u) Sampler) ≡ t
-    by (Scalar k) h = absurd h
-    by (Vector s k) h = absurd h
-    by (Image d a c) h = absurd h
-    by Sampler h = absurd h
     by (BindingArray b) h = inner (is_int (Some i) Scalar) (env.types b.index) h
+    by _ h = absurd h
 
 part_of : (i : ℕ) (ns : List ℕ) (v : Value) (t : TypeInner) → Of t (fine (part_type i (type_of v)))
     → type_of (Number (chosen One ns (components_of v))) ≡ t
@@ -202,9 +195,7 @@ part_of i ns (Number c) t h = ap Scalar (kind_chosen One ns c.lanes) ∙ by c.wi
   where
     by : (w : Width) (k : ScalarKind) → Of t (fine (part_type i (shape w k))) → Scalar k ≡ t
     by One k h = absurd h
-    by Two k h = of_when _ (Scalar k) t h
-    by Three k h = of_when _ (Scalar k) t h
-    by Four k h = of_when _ (Scalar k) t h
+    by _ k h = of_when _ (Scalar k) t h
 part_of i ns (Texture r) t h = absurd (no_handle (λ u. fine (part_type i u)) r.ty t (λ d a c x. x) (λ x. x) (λ b x. x) h)
 
 -- lanes chosen into a vector: of the kind that they were
@@ -217,9 +208,7 @@ splat_of s ns (Number c) t h = chosen_vector s ns c ∙ by c.width (kind_of c.la
   where
     by : (w : Width) (k : ScalarKind) → Of t (fine (splat_type s (shape w k))) → Vector s k ≡ t
     by One k h = h
-    by Two k h = absurd h
-    by Three k h = absurd h
-    by Four k h = absurd h
+    by _ k h = absurd h
 splat_of s ns (Texture r) t h = absurd (no_handle (λ u. fine (splat_type s u)) r.ty t (λ d a c x. x) (λ x. x) (λ b x. x) h)
 
 swizzle_of : (s : VectorSize) (p : List SwizzleComponent) (ns : List ℕ) (v : Value) (t : TypeInner) → Of t (fine (swizzle_type s p (type_of v)))
@@ -228,9 +217,7 @@ swizzle_of s p ns (Number c) t h = chosen_vector s ns c ∙ by c.width (kind_of 
   where
     by : (w : Width) (k : ScalarKind) → Of t (fine (swizzle_type s p (shape w k))) → Vector s k ≡ t
     by One k h = absurd h
-    by Two k h = of_when _ (Vector s k) t h
-    by Three k h = of_when _ (Vector s k) t h
-    by Four k h = of_when _ (Vector s k) t h
+    by _ k h = of_when _ (Vector s k) t h
 swizzle_of s p ns (Texture r) t h = absurd (no_handle (λ u. fine (swizzle_type s p u)) r.ty t (λ d a c x. x) (λ x. x) (λ b x. x) h)
 
 cast_of : (v : Value) (t : TypeInner) → Of t (fine (cast_type (type_of v))) → type_of (Number (casted (components_of v))) ≡ t
@@ -241,28 +228,19 @@ cast_of (Number c) t h = by c.width c.lanes h
     by One (lanes.Sint xs) h = h
     by One (lanes.Uint xs) h = h
     by One (lanes.Bool xs) h = absurd h
-    by Two l h = absurd h
-    by Three l h = absurd h
-    by Four l h = absurd h
+    by _ l h = absurd h
 cast_of (Texture r) t h = absurd (no_handle (λ u. fine (cast_type u)) r.ty t (λ d a c x. x) (λ x. x) (λ b x. x) h)
 
 same_size : (a b : VectorSize) → eqb (size_of a) (size_of b) ≡ true → b ≡ a
 same_size Bi Bi h = refl
-same_size Bi Tri h = absurd (false≢true h)
-same_size Bi Quad h = absurd (false≢true h)
-same_size Tri Bi h = absurd (false≢true h)
 same_size Tri Tri h = refl
-same_size Tri Quad h = absurd (false≢true h)
-same_size Quad Bi h = absurd (false≢true h)
-same_size Quad Tri h = absurd (false≢true h)
 same_size Quad Quad h = refl
+same_size _ _ h = absurd (false≢true h)
 
 -- the first component gives the kind
 compose_of : (vs : List Value) (z : VectorSize) (cs : List ExpressionHandle) (b c d : Components) (o : Option TypeInner) (t : TypeInner)
     → Of t (listed o (compose_type (types_of vs) z cs))
     → type_of (Number (composed (width_of z) (components_of (value_at vs (handle_at cs 0))) b c d)) ≡ t
-compose_of vs z cs b c d None t h = absurd h
-compose_of vs z cs b c d (Some (Scalar k)) t h = absurd h
 compose_of vs z cs b c d (Some (Vector s k)) t h =
     let both = of_test (eqb (size_of s) (size_of z) && composes (types_of vs) z cs k) (Vector s k) t h in
     let fits = and_parts (eqb (size_of s) (size_of z)) (composes (types_of vs) z cs k) both.0 in
@@ -274,9 +252,7 @@ compose_of vs z cs b c d (Some (Vector s k)) t h =
     ∙ ap (Vector z) (kind_composed (width_of z) a.lanes b.lanes c.lanes d.lanes ∙ kind)
     ∙ ap (λ x. Vector x k) (same_size s z fits.0)
     ∙ both.1
-compose_of vs z cs b c d (Some (Image x y w)) t h = absurd h
-compose_of vs z cs b c d (Some Sampler) t h = absurd h
-compose_of vs z cs b c d (Some (BindingArray x)) t h = absurd h
+compose_of vs z cs b c d _ t h = absurd h
 
 -- an input, its lanes past the width put to zero
 clean_of : (c : Components) → type_of (Number (clean c)) ≡ type_of (Number c)
@@ -284,12 +260,9 @@ clean_of c = ap (shape c.width) (kind_clean c.width c.lanes)
 
 supplied_of : (c : Components) (o : Option TypeInner) (t : TypeInner) → ((u : TypeInner) → o ≡ Some u → type_of (Number c) ≡ u)
     → Of t (listed o (λ u. fine (number_type u))) → type_of (Number (clean c)) ≡ t
-supplied_of c None t fits h = absurd h
 supplied_of c (Some (Scalar k)) t fits h = clean_of c ∙ fits (Scalar k) refl ∙ h
 supplied_of c (Some (Vector s k)) t fits h = clean_of c ∙ fits (Vector s k) refl ∙ h
-supplied_of c (Some (Image d a x)) t fits h = absurd h
-supplied_of c (Some Sampler) t fits h = absurd h
-supplied_of c (Some (BindingArray b)) t fits h = absurd h
+supplied_of c _ t fits h = absurd h
 
 -- a request asks by the image's type, so that its answer is of the type that the rule says
 
@@ -314,11 +287,8 @@ sample_of at tys e (Texture r) t h =
     ∙ by r.ty h
   where
     by : (u : TypeInner) → Of t (sample_type tys e (as_handle u)) → asked u (is_some e.image.depth_ref) (is_some e.image.gather) ≡ t
-    by (Scalar k) h = absurd h
-    by (Vector s k) h = absurd h
     by (Image d a c) h = (of_test (sample_fits tys e d a) _ t h).1
-    by Sampler h = absurd h
-    by (BindingArray b) h = absurd h
+    by _ h = absurd h
 
 load_of : (tys : Known) (e : Expression) (v : Value) (t : TypeInner) → Of t (load_type tys e (type_of v)) → asked (texture_type_of v) false false ≡ t
 load_of tys e (Number c) t h = absurd (no_number (load_type tys e) c t (λ k x. x) (λ s k x. x) h)
@@ -329,11 +299,8 @@ load_of tys e (Texture r) t h = by r.ty h
     plain false = refl
 
     by : (u : TypeInner) → Of t (load_type tys e (as_handle u)) → asked u false false ≡ t
-    by (Scalar k) h = absurd h
-    by (Vector s k) h = absurd h
     by (Image d a c) h = ap (λ b. answered_by b c) (plain (is_depth c)) ∙ (of_test (load_fits tys e d a) _ t h).1
-    by Sampler h = absurd h
-    by (BindingArray b) h = absurd h
+    by _ h = absurd h
 
 -- the input of a Supplied record has its type
 abbrev pub InputFits : Env → (ℕ → Components) → Expression → Type 0

@@ -6,7 +6,7 @@ use Rattle.records.specs.declared.types.ScalarKind.{ScalarKind}
 use Rattle.records.specs.declared.types.ScalarKind.TheVariants.{Sint}
 use Rattle.records.specs.declared.types.VectorSize.TheVariants.{Quad}
 use Rattle.records.specs.declared.types.TypeInner.{TypeInner}
-use Rattle.records.specs.declared.types.TypeInner.TheVariants.{Scalar, Vector, Image, Sampler, BindingArray}
+use Rattle.records.specs.declared.types.TypeInner.TheVariants.{Scalar, Vector, Image}
 use Rattle.records.specs.declared.statements.Statement.{Statement}
 use Rattle.records.specs.declared.statements.Statement.TheVariants.{Emit, ImageStore}
 use Rattle.units.specs.declared.values.Value.{Value}
@@ -41,9 +41,6 @@ module _ (vs us : List Value) where
 
   again : (i c : ExpressionHandle) (l : Option ExpressionHandle) (v : ExpressionHandle) (o : Option TypeInner) → types_of vs i.index ≡ o
       → store_fits (types_of vs) o c l v ≡ true → Again vs us i c l v
-  again i c l v None q h = absurd (false≢true h)
-  again i c l v (Some (Scalar k)) q h = absurd (false≢true h)
-  again i c l v (Some (Vector s k)) q h = absurd (false≢true h)
   again i c l v (Some (Image d a class)) q h =
       let f1 = and_parts _ _ h in
       let f2 = and_parts _ _ f1.1 in
@@ -59,8 +56,7 @@ module _ (vs us : List Value) where
             (and_from _ _ (layer_fits_stays a l f2.0) (of_stays v.index (Vector Quad (class_kind class)) f2.1));
         same = cc;
       }
-  again i c l v (Some Sampler) q h = absurd (false≢true h)
-  again i c l v (Some (BindingArray b)) q h = absurd (false≢true h)
+  again i c l v _ q h = absurd (false≢true h)
 
 -- where nothing halts, both tests hold
 tests_hold : (a b : Bool) (g h : Halt) → cond a (cond b None (Some g)) (Some h) ≡ None → (a ≡ true) × (b ≡ true)

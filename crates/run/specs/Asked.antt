@@ -1,27 +1,16 @@
 -- The requests that a run asks, made again from the values that it wrote.
 use Rattle.std.specs.Prelude.{List, [], ◌∷◌, Some, None, Option}
 use Rattle.records.specs.declared.expressions.ExpressionTag.{ExpressionTag}
-use Rattle.records.specs.declared.expressions.ExpressionTag.TheVariants.{GlobalVariable, FunctionArgument, Constant, Supplied, Access, AccessIndex, Compose, Splat, Swizzle, Divide, Round, As, ImageSample, ImageLoad}
+use Rattle.records.specs.declared.expressions.ExpressionTag.TheVariants.{ImageSample, ImageLoad}
 use Rattle.records.specs.declared.expressions.Expression.{Expression}
 use Rattle.units.specs.declared.requests.Request.{Request}
 use Rattle.run.specs.Worth.{Values, sample_request, load_request}
 
 -- the request of one expression, if it makes one
 abbrev pub request_tag : Values → Expression → ExpressionTag → Option Request
-request_tag at e GlobalVariable = None
-request_tag at e FunctionArgument = None
-request_tag at e Constant = None
-request_tag at e Supplied = None
-request_tag at e Access = None
-request_tag at e AccessIndex = None
-request_tag at e Compose = None
-request_tag at e Splat = None
-request_tag at e Swizzle = None
-request_tag at e Divide = None
-request_tag at e Round = None
-request_tag at e As = None
 request_tag at e ImageSample = Some (sample_request at e)
 request_tag at e ImageLoad = Some (load_request at e)
+request_tag at e _ = None
 
 abbrev pub request_of : Values → Expression → Option Request
 request_of at e = request_tag at e e.tag

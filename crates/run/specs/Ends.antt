@@ -12,7 +12,8 @@ use Rattle.run.specs.declared.passes.Halt.{Halt}
 use Rattle.run.specs.declared.passes.Halt.TheVariants as halts
 use Rattle.run.specs.declared.runs.Outcome.{Outcome}
 use Rattle.run.specs.declared.runs.Outcome.TheVariants.{Done, StuckAtExpression, StuckAtStore}
-use Rattle.run.specs.Envs.{Env}
+use Rattle.run.specs.declared.lists.Lists.{Lists}
+use Rattle.run.specs.Envs.{Env, env_of}
 use Rattle.run.specs.Inputs.{halting_inputs}
 use Rattle.run.specs.Runs.{Progress, run_over, types_of, value_at, input_at}
 use Rattle.run.specs.Stores.{halting_stores, stores, store_count}
@@ -58,6 +59,10 @@ abbrev pub after_run : Env → Answers → List Components → List Expression �
 after_run env answers ins es ss cells store_cells =
     cond (short es ss cells store_cells) (nothing_written (Err Full))
     (after_inputs (halting_inputs env ins es) (after_expressions env ss (run_over env (worth env answers (input_at ins)) [] es)))
+
+-- the same by the lists
+abbrev pub after_lists : Lists → Answers → List Components → ℕ → ℕ → After
+after_lists l answers ins cells store_cells = after_run (env_of l) answers ins l.expressions.now l.statements.now cells store_cells
 
 -- cells past what is written stay
 abbrev pub over : {X : Type 0} → List X → List X → List X

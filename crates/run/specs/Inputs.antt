@@ -4,7 +4,7 @@ use Rattle.std.specs.List.{slice_get}
 use Rattle.std.specs.Option.{option_map}
 use Rattle.records.specs.declared.types.TypeInner.{TypeInner}
 use Rattle.records.specs.declared.expressions.ExpressionTag.{ExpressionTag}
-use Rattle.records.specs.declared.expressions.ExpressionTag.TheVariants.{GlobalVariable, FunctionArgument, Constant, Supplied, Access, AccessIndex, Compose, Splat, Swizzle, Divide, Round, As, ImageSample, ImageLoad}
+use Rattle.records.specs.declared.expressions.ExpressionTag.TheVariants.{Supplied}
 use Rattle.records.specs.declared.expressions.Expression.{Expression}
 use Rattle.units.specs.declared.values.Components.{Components}
 use Rattle.units.specs.declared.values.Value.TheVariants.{Number}
@@ -26,20 +26,8 @@ input_halt_by (Some t) input = cond (is_of input t) None (Some WrongInput)
 
 -- why the inputs halt a run at a record, if they do
 abbrev pub input_halt : Env → List Components → Expression → ExpressionTag → Option Halt
-input_halt env ins e GlobalVariable = None
-input_halt env ins e FunctionArgument = None
-input_halt env ins e Constant = None
 input_halt env ins e Supplied = input_halt_by (env.types e.ty.index) (input_type ins e.index)
-input_halt env ins e Access = None
-input_halt env ins e AccessIndex = None
-input_halt env ins e Compose = None
-input_halt env ins e Splat = None
-input_halt env ins e Swizzle = None
-input_halt env ins e Divide = None
-input_halt env ins e Round = None
-input_halt env ins e As = None
-input_halt env ins e ImageSample = None
-input_halt env ins e ImageLoad = None
+input_halt env ins e _ = None
 
 abbrev pub halting_inputs : Env → List Components → List Expression → Option Halt
 halting_inputs env ins = first_halt (λ i e. input_halt env ins e e.tag) 0

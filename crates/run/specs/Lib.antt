@@ -7,5 +7,6 @@ pub mod Asked
 pub mod Runs
 pub mod Stores
 pub mod Inputs
+pub mod Checks
 pub mod Ends
 pub mod Laws

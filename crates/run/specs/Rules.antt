@@ -11,7 +11,7 @@ use Rattle.records.specs.declared.types.VectorSize.TheVariants.{Bi, Tri, Quad}
 use Rattle.records.specs.declared.types.ImageDimension.{ImageDimension}
 use Rattle.records.specs.declared.types.ImageDimension.TheVariants.{D1, D2, D3, Cube}
 use Rattle.records.specs.declared.types.ImageClass.{ImageClass}
-use Rattle.records.specs.declared.types.ImageClass.TheVariants.{Sampled, Depth, Storage}
+use Rattle.records.specs.declared.types.ImageClass.TheVariants.{Depth}
 use Rattle.records.specs.declared.types.TypeInner.{TypeInner}
 use Rattle.records.specs.declared.types.TypeInner.TheVariants.{Scalar, Vector, Image, Sampler, BindingArray}
 use Rattle.records.specs.declared.expressions.SwizzleComponent.{SwizzleComponent}
@@ -65,16 +65,12 @@ is_int o of = is_of o (of Sint) || is_of o (of Uint)
 abbrev pub texture_type : TypeInner → Option TypeInner
 texture_type (Scalar k) = None
 texture_type (Vector s k) = None
-texture_type (Image d a c) = Some (Image d a c)
-texture_type Sampler = Some Sampler
-texture_type (BindingArray b) = Some (BindingArray b)
+texture_type t = Some t
 
 abbrev pub number_type : TypeInner → Option TypeInner
 number_type (Scalar k) = Some (Scalar k)
 number_type (Vector s k) = Some (Vector s k)
-number_type (Image d a c) = None
-number_type Sampler = None
-number_type (BindingArray b) = None
+number_type _ = None
 
 abbrev pub literal_type : Literal → TypeInner
 literal_type (U32 x) = Scalar Uint
@@ -87,12 +83,9 @@ resource env o = listed o (λ h. listed (env.types h.index) (λ t. fine (texture
 
 -- an element of a binding array; the index is an integer scalar
 abbrev pub element : Env → TypeInner → TypeInner → Sight
-element env (Scalar k) i = Err Lacking
-element env (Vector s k) i = Err Lacking
-element env (Image d a c) i = Err Lacking
-element env Sampler i = Err Lacking
 element env (BindingArray b) i =
     cond (is_int (Some i) Scalar) (listed (env.types b.index) (λ t. fine (texture_type t))) (Err Lacking)
+element env _ i = Err Lacking
 
 -- whether the first of four, as many as the size says, pass a test
 abbrev pub of_first : {X : Type 0} → VectorSize → List X → X → (X → Bool) → Bool
@@ -108,11 +101,8 @@ abbrev pub composes : Known → VectorSize → List ExpressionHandle → ScalarK
 composes tys size cs k = of_first size cs no_handle (λ h. is_of (tys h.index) (Scalar k))
 
 abbrev pub compose_type : Known → VectorSize → List ExpressionHandle → TypeInner → Sight
-compose_type tys size cs (Scalar k) = Err Lacking
 compose_type tys size cs (Vector s k) = test (size_of s == size_of size && composes tys size cs k) (Vector s k)
-compose_type tys size cs (Image d a c) = Err Lacking
-compose_type tys size cs Sampler = Err Lacking
-compose_type tys size cs (BindingArray b) = Err Lacking
+compose_type tys size cs _ = Err Lacking
 
 abbrev pub splat_type : VectorSize → TypeInner → Option TypeInner
 splat_type size t = on (scalar_kind t) (λ k. Some (Vector size k))
@@ -122,17 +112,12 @@ abbrev pub has_pattern : ℕ → VectorSize → List SwizzleComponent → Bool
 has_pattern n size p = of_first size p X (λ c. nat_lt (component_number c) n)
 
 abbrev pub swizzle_type : VectorSize → List SwizzleComponent → TypeInner → Option TypeInner
-swizzle_type size p (Scalar k) = None
 swizzle_type size p (Vector s k) = when (has_pattern (size_of s) size p) (Vector size k)
-swizzle_type size p (Image d a c) = None
-swizzle_type size p Sampler = None
-swizzle_type size p (BindingArray b) = None
+swizzle_type size p _ = None
 
 abbrev pub castable : ScalarKind → Bool
-castable Sint = true
-castable Uint = true
-castable Float = true
 castable BoolKind = false
+castable _ = true
 
 abbrev pub cast_type : TypeInner → Option TypeInner
 cast_type t = on (scalar_kind t) (λ k. when (castable k) (Scalar Sint))
@@ -145,9 +130,8 @@ place_type D3 k = Vector Tri k
 place_type Cube k = Vector Tri k
 
 abbrev pub is_depth : ImageClass → Bool
-is_depth (Sampled k m) = false
 is_depth (Depth m) = true
-is_depth (Storage k) = false
+is_depth _ = false
 
 -- operands that may be missing
 
@@ -185,11 +169,8 @@ abbrev pub sampled_by : Expression → ImageClass → TypeInner
 sampled_by e c = answered_by ((is_depth c || is_some e.image.depth_ref) && not (is_some e.image.gather)) c
 
 abbrev pub sample_type : Known → Expression → TypeInner → Sight
-sample_type tys e (Scalar k) = Err Lacking
-sample_type tys e (Vector s k) = Err Lacking
 sample_type tys e (Image d a c) = test (sample_fits tys e d a) (sampled_by e c)
-sample_type tys e Sampler = Err Lacking
-sample_type tys e (BindingArray b) = Err Lacking
+sample_type tys e _ = Err Lacking
 
 abbrev pub load_fits : Known → Expression → ImageDimension → Bool → Bool
 load_fits tys e d arrayed =
@@ -197,11 +178,8 @@ load_fits tys e d arrayed =
     && (integer_fits tys e.image.sample && integer_fits tys e.image.lod))
 
 abbrev pub load_type : Known → Expression → TypeInner → Sight
-load_type tys e (Scalar k) = Err Lacking
-load_type tys e (Vector s k) = Err Lacking
 load_type tys e (Image d a c) = test (load_fits tys e d a) (answered_by (is_depth c) c)
-load_type tys e Sampler = Err Lacking
-load_type tys e (BindingArray b) = Err Lacking
+load_type tys e _ = Err Lacking
 
 -- the numbers that a record names, inside the used lists
 
@@ -248,20 +226,14 @@ inside_result env = none_or (λ h. is_some (env.types h.index))
 
 -- the type of what a record comes to, were all its numbers inside: first of one that is made of an expression of a type
 abbrev pub made_of : Env → Known → Expression → TypeInner → ExpressionTag → Sight
-made_of env tys e base GlobalVariable = Err Lacking
-made_of env tys e base FunctionArgument = Err Lacking
-made_of env tys e base Constant = Err Lacking
-made_of env tys e base Supplied = Err Lacking
 made_of env tys e base Access = known (tys e.other.index) (element env base)
 made_of env tys e base AccessIndex = fine (part_type e.index base)
-made_of env tys e base Compose = Err Lacking
 made_of env tys e base Splat = fine (splat_type e.size base)
 made_of env tys e base Swizzle = fine (swizzle_type e.size e.pattern base)
-made_of env tys e base Divide = Err Lacking
-made_of env tys e base Round = Err Lacking
 made_of env tys e base As = fine (cast_type base)
 made_of env tys e base ImageSample = sample_type tys e base
 made_of env tys e base ImageLoad = load_type tys e base
+made_of env tys e base _ = Err Lacking
 
 -- then of one whose type does not hang on one base alone
 abbrev pub leaf_rule : Env → Known → Expression → ExpressionTag → Option Sight
@@ -269,16 +241,10 @@ leaf_rule env tys e GlobalVariable = Some (resource env (env.variables e.variabl
 leaf_rule env tys e FunctionArgument = Some (resource env (env.arguments e.argument.index))
 leaf_rule env tys e Constant = Some (listed (env.constants e.constant.index) (λ l. Ok (literal_type l)))
 leaf_rule env tys e Supplied = Some (listed (env.types e.ty.index) (λ t. fine (number_type t)))
-leaf_rule env tys e Access = None
-leaf_rule env tys e AccessIndex = None
 leaf_rule env tys e Compose = Some (listed (env.types e.ty.index) (compose_type tys e.size e.components))
-leaf_rule env tys e Splat = None
-leaf_rule env tys e Swizzle = None
 leaf_rule env tys e Divide = Some (test (is_of (tys e.base.index) (Scalar Float) && is_of (tys e.other.index) (Scalar Float)) (Scalar Float))
 leaf_rule env tys e Round = Some (test (is_of (tys e.base.index) (Scalar Float)) (Scalar Float))
-leaf_rule env tys e As = None
-leaf_rule env tys e ImageSample = None
-leaf_rule env tys e ImageLoad = None
+leaf_rule env tys e _ = None
 
 abbrev pub otherwise : {X : Type 0} → Option X → X → X
 otherwise None y = y

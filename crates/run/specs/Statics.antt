@@ -4,7 +4,7 @@ use Rattle.std.specs.List.{slice_get}
 use Rattle.records.specs.declared.handles.TypeHandle.{TypeHandle}
 use Rattle.records.specs.declared.types.ScalarKind.TheVariants.{Sint, Float}
 use Rattle.records.specs.declared.types.TypeInner.{TypeInner}
-use Rattle.records.specs.declared.types.TypeInner.TheVariants.{Scalar, Vector, Image, Sampler, BindingArray}
+use Rattle.records.specs.declared.types.TypeInner.TheVariants.{Scalar, Vector, Image, BindingArray}
 use Rattle.records.specs.declared.expressions.ExpressionTag.{ExpressionTag}
 use Rattle.records.specs.declared.expressions.ExpressionTag.TheVariants.{GlobalVariable, FunctionArgument, Constant, Supplied, Access, AccessIndex, Compose, Splat, Swizzle, Divide, Round, As, ImageSample, ImageLoad}
 use Rattle.records.specs.declared.expressions.Expression.{Expression}
@@ -17,25 +17,16 @@ abbrev pub type_by : Env → Option TypeHandle → Option TypeInner
 type_by env o = on o (λ h. env.types h.index)
 
 abbrev pub element_type : Env → TypeInner → Option TypeInner
-element_type env (Scalar k) = None
-element_type env (Vector s k) = None
-element_type env (Image d a c) = None
-element_type env Sampler = None
 element_type env (BindingArray b) = env.types b.index
+element_type env _ = None
 
 abbrev pub sampled_type : Expression → TypeInner → Option TypeInner
-sampled_type e (Scalar k) = None
-sampled_type e (Vector s k) = None
 sampled_type e (Image d a c) = Some (sampled_by e c)
-sampled_type e Sampler = None
-sampled_type e (BindingArray b) = None
+sampled_type e _ = None
 
 abbrev pub loaded_type : TypeInner → Option TypeInner
-loaded_type (Scalar k) = None
-loaded_type (Vector s k) = None
 loaded_type (Image d a c) = Some (answered_by (is_depth c) c)
-loaded_type Sampler = None
-loaded_type (BindingArray b) = None
+loaded_type _ = None
 
 -- base is the type of the record's base, where it has one
 abbrev pub static_tag : Env → Option TypeInner → Expression → ExpressionTag → Option TypeInner

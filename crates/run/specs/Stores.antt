@@ -3,7 +3,7 @@ use Rattle.std.specs.Prelude.{ℕ, suc, Bool, false, cond, ◌&&◌, List, [], �
 use Rattle.records.specs.declared.handles.ExpressionHandle.{ExpressionHandle}
 use Rattle.records.specs.declared.types.VectorSize.TheVariants.{Quad}
 use Rattle.records.specs.declared.types.TypeInner.{TypeInner}
-use Rattle.records.specs.declared.types.TypeInner.TheVariants.{Scalar, Vector, Image, Sampler, BindingArray}
+use Rattle.records.specs.declared.types.TypeInner.TheVariants.{Vector, Image}
 use Rattle.records.specs.declared.statements.Statement.{Statement}
 use Rattle.records.specs.declared.statements.Statement.TheVariants.{Emit, ImageStore}
 use Rattle.units.specs.declared.requests.Sort.TheVariants.{Store}
@@ -18,13 +18,9 @@ use Rattle.run.specs.Worth.{Values, components_of, image_request}
 
 -- a place of integers, a layer where the image is arrayed, four components of the image's kind
 abbrev pub store_fits : Known → Option TypeInner → ExpressionHandle → Option ExpressionHandle → ExpressionHandle → Bool
-store_fits tys None c l v = false
-store_fits tys (Some (Scalar k)) c l v = false
-store_fits tys (Some (Vector s k)) c l v = false
 store_fits tys (Some (Image dim arrayed class)) c l v =
     is_int (tys c.index) (place_type dim) && (layer_fits tys arrayed l && is_of (tys v.index) (Vector Quad (class_kind class)))
-store_fits tys (Some Sampler) c l v = false
-store_fits tys (Some (BindingArray b)) c l v = false
+store_fits tys _ c l v = false
 
 abbrev pub inside_store : Env → ExpressionHandle → ExpressionHandle → Option ExpressionHandle → ExpressionHandle → Bool
 inside_store env i c l v = inside_one env i && (inside_one env c && (inside_option env l && inside_one env v))

@@ -25,10 +25,7 @@ when b x = cond b (Some x) None
 -- the kind of a scalar, and of an integer or a Float scalar
 abbrev pub scalar_kind : TypeInner → Option ScalarKind
 scalar_kind (Scalar k) = Some k
-scalar_kind (Vector s k) = None
-scalar_kind (Image d a c) = None
-scalar_kind Sampler = None
-scalar_kind (BindingArray b) = None
+scalar_kind _ = None
 
 abbrev pub is_integer : ScalarKind → Bool
 is_integer Sint = true
@@ -37,18 +34,14 @@ is_integer Float = false
 is_integer BoolKind = false
 
 abbrev pub is_float : ScalarKind → Bool
-is_float Sint = false
-is_float Uint = false
 is_float Float = true
-is_float BoolKind = false
+is_float _ = false
 
 -- how many components, and their kind; a texture or sampler has none
 abbrev pub count_in : TypeInner → ℕ
 count_in (Scalar k) = 1
 count_in (Vector s k) = size_of s
-count_in (Image d a c) = 0
-count_in Sampler = 0
-count_in (BindingArray b) = 0
+count_in _ = 0
 
 abbrev pub class_kind : ImageClass → ScalarKind
 class_kind (Sampled k m) = k
@@ -65,8 +58,5 @@ kind_in (BindingArray b) = Float
 
 -- the type of one component of a vector
 abbrev pub part_type : ℕ → TypeInner → Option TypeInner
-part_type i (Scalar k) = None
 part_type i (Vector s k) = when (nat_lt i (size_of s)) (Scalar k)
-part_type i (Image d a c) = None
-part_type i Sampler = None
-part_type i (BindingArray b) = None
+part_type i _ = None

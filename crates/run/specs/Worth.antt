@@ -7,7 +7,7 @@ use Rattle.records.specs.declared.handles.ExpressionHandle.{ExpressionHandle}
 use Rattle.records.specs.declared.types.ImageDimension.{ImageDimension}
 use Rattle.records.specs.declared.types.ImageDimension.TheVariants.{D1}
 use Rattle.records.specs.declared.types.TypeInner.{TypeInner}
-use Rattle.records.specs.declared.types.TypeInner.TheVariants.{Scalar, Vector, Image, Sampler, BindingArray}
+use Rattle.records.specs.declared.types.TypeInner.TheVariants.{Image, Sampler}
 use Rattle.records.specs.declared.expressions.SwizzleComponent.{SwizzleComponent}
 use Rattle.records.specs.declared.expressions.SwizzleComponent.TheVariants.{X}
 use Rattle.records.specs.declared.expressions.SampleLevel.{SampleLevel}
@@ -78,10 +78,9 @@ whole root t = Texture (record { resource = record { root = root; depth = 0; ind
 
 -- the bits of an index, Sint or Uint alike
 abbrev pub index_bits : Lanes → ℕ
-index_bits (lanes.Float xs) = 0
 index_bits (lanes.Sint xs) = sint_to_bits (slice_index_or xs 0 (pos 0))
 index_bits (lanes.Uint xs) = slice_index xs 0
-index_bits (lanes.Bool xs) = 0
+index_bits _ = 0
 
 -- one element further: the first four indexes are kept
 abbrev pub element_of : Env → Value → Value → Value
@@ -115,18 +114,12 @@ load_level None = Unstated
 load_level (Some c) = Exact c
 
 abbrev pub dimension_of : TypeInner → ImageDimension
-dimension_of (Scalar k) = D1
-dimension_of (Vector s k) = D1
 dimension_of (Image d a c) = d
-dimension_of Sampler = D1
-dimension_of (BindingArray b) = D1
+dimension_of _ = D1
 
 abbrev pub depth_of : TypeInner → Bool
-depth_of (Scalar k) = false
-depth_of (Vector s k) = false
 depth_of (Image d a c) = is_depth c
-depth_of Sampler = false
-depth_of (BindingArray b) = false
+depth_of _ = false
 
 abbrev pub sort_of : Option SwizzleComponent → Sort
 sort_of None = Sample
@@ -174,11 +167,6 @@ load_request at e = record (image_request at Load e.base e.image.coordinate e.im
 
 -- of a record that computes components from those of other expressions
 abbrev pub computed_tag : Values → Expression → ExpressionTag → Components
-computed_tag at e GlobalVariable = components_of (at e.base.index)
-computed_tag at e FunctionArgument = components_of (at e.base.index)
-computed_tag at e Constant = components_of (at e.base.index)
-computed_tag at e Supplied = components_of (at e.base.index)
-computed_tag at e Access = components_of (at e.base.index)
 computed_tag at e AccessIndex = chosen One (e.index ∷ e.index ∷ e.index ∷ e.index ∷ []) (components_of (at e.base.index))
 computed_tag at e Compose =
     composed (width_of e.size) (components_of (at (handle_at e.components 0))) (components_of (at (handle_at e.components 1)))
@@ -188,8 +176,7 @@ computed_tag at e Swizzle = chosen (width_of e.size) (numbers_of e.pattern) (com
 computed_tag at e Divide = divided (components_of (at e.base.index)) (components_of (at e.other.index))
 computed_tag at e Round = rounded (components_of (at e.base.index))
 computed_tag at e As = casted (components_of (at e.base.index))
-computed_tag at e ImageSample = components_of (at e.base.index)
-computed_tag at e ImageLoad = components_of (at e.base.index)
+computed_tag at e _ = components_of (at e.base.index)
 
 abbrev pub worth_tag : Env → Answers → (ℕ → Components) → Values → Expression → ExpressionTag → Value
 worth_tag env answers ins at e GlobalVariable = whole (Variable e.variable) (type_by env (env.variables e.variable.index))
@@ -197,15 +184,9 @@ worth_tag env answers ins at e FunctionArgument = whole (Argument e.argument) (t
 worth_tag env answers ins at e Constant = Number (unwrap_or (option_map literal_components (env.constants e.constant.index)) no_components)
 worth_tag env answers ins at e Supplied = Number (clean (ins e.index))
 worth_tag env answers ins at e Access = element_of env (at e.base.index) (at e.other.index)
-worth_tag env answers ins at e AccessIndex = Number (computed_tag at e AccessIndex)
-worth_tag env answers ins at e Compose = Number (computed_tag at e Compose)
-worth_tag env answers ins at e Splat = Number (computed_tag at e Splat)
-worth_tag env answers ins at e Swizzle = Number (computed_tag at e Swizzle)
-worth_tag env answers ins at e Divide = Number (computed_tag at e Divide)
-worth_tag env answers ins at e Round = Number (computed_tag at e Round)
-worth_tag env answers ins at e As = Number (computed_tag at e As)
 worth_tag env answers ins at e ImageSample = Number (answers (sample_request at e))
 worth_tag env answers ins at e ImageLoad = Number (answers (load_request at e))
+worth_tag env answers ins at e tag = Number (computed_tag at e tag)
 
 abbrev pub worth : Env → Answers → (ℕ → Components) → Values → Expression → Value
 worth env answers ins at e = worth_tag env answers ins at e e.tag

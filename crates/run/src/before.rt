@@ -5,7 +5,7 @@ ghost use Rattle.run.specs.Rules.{is_of, is_int, place_type};
 ghost use Rattle.run.specs.Statics.{known_by};
 
 use crate::lists::Lists;
-use crate::rules::{is_integer_place, is_integer_scalar, is_of};
+use crate::rules::{is_integer_place, is_integer_scalar};
 use crate::statics::static_type;
 use records::{ExpressionHandle, ImageDimension, TypeInner};
 
@@ -31,7 +31,7 @@ impl Before<'_> {
     pub fn is(self, operand: ExpressionHandle, wanted: TypeInner) -> bool
         ensures { result ≡ is_of (known_by self.entry operand.index) wanted }
     {
-        is_of(self.type_of(operand), wanted)
+        self.type_of(operand) == Some(wanted)
     }
 
     pub fn is_integer(self, operand: ExpressionHandle) -> bool

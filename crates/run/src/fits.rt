@@ -6,13 +6,10 @@ ghost use Rattle.run.specs.Rules.{layer_fits, offset_fits, float_fits, integer_f
 use crate::before::Before;
 use crate::rules::{Miss, of_first, place_type};
 use crate::statics::{answered_by, is_depth, sampled_by};
+use crate::types::{FLOAT, SINT};
 use records::{
     Expression, ExpressionHandle, ImageDimension, SampleLevel, ScalarKind, TypeInner, VectorSize,
 };
-
-pub const FLOAT: TypeInner = TypeInner::Scalar(ScalarKind::Float);
-
-const SINT: TypeInner = TypeInner::Scalar(ScalarKind::Sint);
 
 impl Before<'_> {
     // There is a layer exactly if the image is arrayed.

@@ -1,12 +1,13 @@
 // Inputs: whether each Supplied record has one of its type.
 ghost use Rattle.std.specs.Prelude.{◌≡◌};
+ghost use Rattle.run.specs.Checks.{inputs_halt};
 ghost use Rattle.run.specs.Envs.{env_of};
-ghost use Rattle.run.specs.Inputs.{input_type, input_halt, halting_inputs};
+ghost use Rattle.run.specs.Inputs.{input_type, input_halt};
 ghost use Rattle.run.specs.Runs.{or_halt};
 
+use crate::checks::check_each;
 use crate::lists::Lists;
 use crate::passes::Halt;
-use crate::rules::is_of;
 use records::{Expression, ExpressionTag, TypeInner};
 use units::{Components, Value};
 
@@ -25,7 +26,7 @@ impl Lists<'_> {
             return Ok(());
         };
         let ty = self.type_at(e.ty).ok_or(Halt::Outside)?;
-        if is_of(input_type(inputs, e.index), ty) {
+        if input_type(inputs, e.index) == Some(ty) {
             Ok(())
         } else {
             Err(Halt::WrongInput)
@@ -34,11 +35,8 @@ impl Lists<'_> {
 
     // The first record whose input is missing or of another type decides.
     pub fn check_inputs(self, inputs: &[Components]) -> Result<(), Halt>
-        ensures { result ≡ or_halt (halting_inputs (env_of self.entry) inputs.now self.entry.expressions.now) }
+        ensures { result ≡ or_halt (inputs_halt self.entry inputs.now) }
     {
-        for e in self.expressions {
-            self.check_input(inputs, *e)?;
-        }
-        Ok(())
+        check_each(self.expressions, |_, e| self.check_input(inputs, e))
     }
 }

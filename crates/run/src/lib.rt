@@ -2,6 +2,7 @@
 #![tactic(auto)]
 
 mod before;
+mod checks;
 mod fits;
 mod inputs;
 mod inside;

@@ -1,14 +1,18 @@
 // The two passes over the expressions: the first finds where a run would halt, the second works out the values.
 ghost use Rattle.std.specs.Prelude.{◌≡◌, ◌≤◌, [], ◌++◌, length, drop};
+ghost use Rattle.run.specs.Checks.{expressions_halt};
 ghost use Rattle.run.specs.Envs.{env_of};
-ghost use Rattle.run.specs.Runs.{halt_by, or_halt, halting, worked, input_at};
-ghost use Rattle.run.specs.Statics.{known_before};
+ghost use Rattle.run.specs.Runs.{halt_by, halt_of, or_halt, worked, input_at};
+ghost use Rattle.run.specs.Rules.{seen};
+ghost use Rattle.run.specs.Statics.{known_by};
 ghost use Rattle.run.specs.Worth.{worth};
 
 use crate::before::Before;
+use crate::checks::check_each;
 use crate::lists::Lists;
 use crate::rules::Miss;
 use crate::worth::work_out;
+use records::Expression;
 use units::{Components, TextureUnit, Value};
 
 // Why a run ends before the end of the expressions.
@@ -36,17 +40,27 @@ impl Miss {
     }
 }
 
+impl Before<'_> {
+    // Whether expression i, of which this is the record, lets a run go on.
+    fn check(self, e: Expression) -> Result<(), Halt>
+        ensures { result ≡ or_halt (halt_of (seen (env_of self.entry.lists) (known_by self.entry) e) self.entry.i) }
+    {
+        match self.see(e) {
+            Ok(_) => Ok(()),
+            Err(miss) => Err(miss.halt(self.i)),
+        }
+    }
+}
+
 impl Lists<'_> {
     // The first pass: the first expression that has no type decides. Nothing is written.
     pub fn check_expressions(self) -> Result<(), Halt>
-        ensures { result ≡ or_halt (halting (env_of self.entry) (known_before (env_of self.entry) self.entry.expressions.now) 0 self.entry.expressions.now) }
+        ensures { result ≡ or_halt (expressions_halt self.entry) }
     {
-        for (i, e) in self.expressions.iter().enumerate() {
-            if let Err(miss) = (Before { lists: self, i }).see(*e) {
-                return Err(miss.halt(i));
-            }
-        }
-        Ok(())
+        check_each(
+            self.expressions,
+            |i, e| (Before { lists: self, i }).check(e),
+        )
     }
 }
 
@@ -60,7 +74,7 @@ pub(crate) fn fill_values<U: TextureUnit>(
     requires { length lists.expressions.now ≤ length values.old }
     ensures { values.new ≡ worked (worth (env_of lists.entry) (U.answers unit.now) (input_at inputs.now)) [] lists.entry.expressions.now ++ drop (length lists.entry.expressions.now) values.old }
 {
-    for i in 0..lists.expressions.len() {
-        values[i] = work_out(lists, unit, inputs, &values[..i], lists.expressions[i]);
+    for (i, e) in lists.expressions.iter().enumerate() {
+        values[i] = work_out(lists, unit, inputs, &values[..i], *e);
     }
 }

@@ -1,9 +1,9 @@
 // What each expression needs, and the type of what it comes to. No value is looked at.
 ghost use Rattle.std.specs.Prelude.{◌≡◌, Bool};
-ghost use Rattle.run.specs.Rules.{is_of, is_int, of_first, texture_type, number_type, splat_type, has_pattern, swizzle_type, cast_type, place_type};
+ghost use Rattle.run.specs.Rules.{is_int, of_first, texture_type, number_type, splat_type, has_pattern, swizzle_type, cast_type, place_type};
 ghost use Rattle.records.specs.declared.types.TypeInner.TheVariants.{Scalar};
 
-use crate::types::scalar_kind;
+use crate::types::{SINT, scalar_kind};
 use records::{ImageDimension, ScalarKind, SwizzleComponent, TypeInner, VectorSize};
 
 // Why an expression has no type.
@@ -15,16 +15,13 @@ pub enum Miss {
     Outside,
 }
 
-pub fn is_of(ty: Option<TypeInner>, wanted: TypeInner) -> bool
-    ensures { result ≡ is_of ty wanted }
-{
-    ty.is_some_and(|ty| ty == wanted)
-}
-
 pub fn is_integer_scalar(ty: Option<TypeInner>) -> bool
     ensures { result ≡ is_int ty Scalar }
 {
-    is_of(ty, TypeInner::Scalar(ScalarKind::Sint)) || is_of(ty, TypeInner::Scalar(ScalarKind::Uint))
+    matches!(
+        ty,
+        Some(TypeInner::Scalar(ScalarKind::Sint | ScalarKind::Uint))
+    )
 }
 
 // The type of a place in an image of a dimension.
@@ -42,7 +39,7 @@ pub fn place_type(dim: ImageDimension, kind: ScalarKind) -> TypeInner
 pub fn is_integer_place(ty: Option<TypeInner>, dim: ImageDimension) -> bool
     ensures { result ≡ is_int ty (place_type dim) }
 {
-    is_of(ty, place_type(dim, ScalarKind::Sint)) || is_of(ty, place_type(dim, ScalarKind::Uint))
+    ty == Some(place_type(dim, ScalarKind::Sint)) || ty == Some(place_type(dim, ScalarKind::Uint))
 }
 
 pub fn texture_type(ty: TypeInner) -> Option<TypeInner>
@@ -105,9 +102,7 @@ pub fn cast_type(ty: TypeInner) -> Option<TypeInner>
     ensures { result ≡ cast_type ty }
 {
     match ty {
-        TypeInner::Scalar(ScalarKind::Sint | ScalarKind::Uint | ScalarKind::Float) => {
-            Some(TypeInner::Scalar(ScalarKind::Sint))
-        }
+        TypeInner::Scalar(ScalarKind::Sint | ScalarKind::Uint | ScalarKind::Float) => { Some(SINT) }
         _ => None,
     }
 }

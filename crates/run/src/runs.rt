@@ -1,11 +1,8 @@
 // A whole run over lists of records.
 ghost use Rattle.std.specs.Prelude.{◌≡◌, length};
-ghost use Rattle.run.specs.Ends.{end_of, after_run, over};
-ghost use Rattle.run.specs.Envs.{env_of};
-ghost use Rattle.run.specs.Inputs.{halting_inputs};
-ghost use Rattle.run.specs.Runs.{or_else, or_halt, halting};
-ghost use Rattle.run.specs.Statics.{known_before};
-ghost use Rattle.run.specs.Stores.{halting_stores};
+ghost use Rattle.run.specs.Checks.{lists_halt};
+ghost use Rattle.run.specs.Ends.{end_of, after_lists, over};
+ghost use Rattle.run.specs.Runs.{or_halt};
 
 use crate::lists::Lists;
 use crate::passes::{Halt, fill_values};
@@ -39,7 +36,7 @@ impl Halt {
 impl Lists<'_> {
     // All that can halt a run, in order: the inputs, the expressions, the stores.
     fn check(self, inputs: &[Components]) -> Result<(), Halt>
-        ensures { result ≡ or_halt (or_else (halting_inputs (env_of self.entry) inputs.now self.entry.expressions.now) (or_else (halting (env_of self.entry) (known_before (env_of self.entry) self.entry.expressions.now) 0 self.entry.expressions.now) (halting_stores (env_of self.entry) (known_before (env_of self.entry) self.entry.expressions.now (env_of self.entry).count) 0 self.entry.statements.now))) }
+        ensures { result ≡ or_halt (lists_halt self.entry inputs.now) }
     {
         self.check_inputs(inputs)?;
         self.check_expressions()?;
@@ -56,9 +53,9 @@ pub fn run<U: TextureUnit>(
     values: &mut [Value],
     requests: &mut [Request],
 ) -> Result<Outcome, Error>
-    ensures answer { result ≡ (after_run (env_of lists.entry) (U.answers unit.now) inputs.now lists.entry.expressions.now lists.entry.statements.now (length values.old) (length requests.old)).answer }
-    ensures written { values.new ≡ over (after_run (env_of lists.entry) (U.answers unit.now) inputs.now lists.entry.expressions.now lists.entry.statements.now (length values.old) (length requests.old)).values values.old }
-    ensures listed { requests.new ≡ over (after_run (env_of lists.entry) (U.answers unit.now) inputs.now lists.entry.expressions.now lists.entry.statements.now (length values.old) (length requests.old)).requests requests.old }
+    ensures answer { result ≡ (after_lists lists.entry (U.answers unit.now) inputs.now (length values.old) (length requests.old)).answer }
+    ensures written { values.new ≡ over (after_lists lists.entry (U.answers unit.now) inputs.now (length values.old) (length requests.old)).values values.old }
+    ensures listed { requests.new ≡ over (after_lists lists.entry (U.answers unit.now) inputs.now (length values.old) (length requests.old)).requests requests.old }
 {
     let n = lists.expressions.len();
     if values.len() < n || requests.len() < store_count(lists.statements) {

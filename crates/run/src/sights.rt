@@ -5,13 +5,12 @@ ghost use Rattle.run.specs.Statics.{known_by};
 ghost use Rattle.run.specs.Rules.{resource, element, made_of, rule_of, result_fits, seen};
 
 use crate::before::Before;
-use crate::fits::FLOAT;
 use crate::lists::Lists;
 use crate::rules::{
     Miss, cast_type, is_integer_scalar, number_type, splat_type, swizzle_type, texture_type,
 };
 use crate::statics::literal_type;
-use crate::types::part_type;
+use crate::types::{FLOAT, part_type};
 use records::{Expression, ExpressionTag, TypeHandle, TypeInner};
 
 impl Lists<'_> {

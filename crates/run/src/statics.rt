@@ -6,7 +6,7 @@ ghost use Rattle.run.specs.Rules.{literal_type, is_depth, answered_by, sampled_b
 ghost use Rattle.run.specs.Statics.{type_by, element_type, sampled_type, loaded_type, static_tag, static};
 
 use crate::lists::Lists;
-use crate::types::{class_kind, kind_in};
+use crate::types::{FLOAT, SINT, class_kind, kind_in};
 use records::{
     Expression, ExpressionHandle, ExpressionTag, ImageClass, Literal, ScalarKind, TypeHandle,
     TypeInner, VectorSize,
@@ -32,7 +32,7 @@ pub fn answered_by(one: bool, class: ImageClass) -> TypeInner
     ensures { result ≡ answered_by one class }
 {
     if one {
-        return TypeInner::Scalar(ScalarKind::Float);
+        return FLOAT;
     }
     TypeInner::Vector {
         size: VectorSize::Quad,
@@ -97,10 +97,8 @@ impl Lists<'_> {
             (ExpressionTag::FunctionArgument, _) => self.type_by(self.argument_at(e.argument)),
             (ExpressionTag::Constant, _) => self.constant_at(e.constant).map(literal_type),
             (ExpressionTag::Supplied | ExpressionTag::Compose, _) => self.type_at(e.ty),
-            (ExpressionTag::Divide | ExpressionTag::Round, _) => Some(TypeInner::Scalar(
-                ScalarKind::Float,
-            )),
-            (ExpressionTag::As, _) => Some(TypeInner::Scalar(ScalarKind::Sint)),
+            (ExpressionTag::Divide | ExpressionTag::Round, _) => Some(FLOAT),
+            (ExpressionTag::As, _) => Some(SINT),
             (ExpressionTag::Access, Some(base)) => self.element_type(base),
             (ExpressionTag::AccessIndex, Some(base)) => Some(TypeInner::Scalar(kind_in(base))),
             (ExpressionTag::Splat | ExpressionTag::Swizzle, Some(base)) => {

@@ -1,11 +1,13 @@
 // Stores: whether each has what it needs, and the requests that they list.
 ghost use Rattle.std.specs.Prelude.{◌≡◌, ◌≤◌, ◌++◌, length, drop};
+ghost use Rattle.run.specs.Checks.{known_to_stores, stores_halt};
 ghost use Rattle.run.specs.Envs.{env_of};
 ghost use Rattle.run.specs.Runs.{or_halt, value_at};
-ghost use Rattle.run.specs.Statics.{known_by, known_before};
-ghost use Rattle.run.specs.Stores.{store_fits, store_halt, halting_stores, store_request_of, stores, store_count};
+ghost use Rattle.run.specs.Statics.{known_by};
+ghost use Rattle.run.specs.Stores.{store_fits, store_halt, store_request_of, stores, store_count};
 
 use crate::before::Before;
+use crate::checks::check_each;
 use crate::lists::Lists;
 use crate::passes::Halt;
 use crate::requests::{components_at, image_request};
@@ -46,7 +48,7 @@ impl Before<'_> {
 impl Lists<'_> {
     // Whether statement j lets a run go on.
     fn check_store(self, j: usize, statement: Statement) -> Result<(), Halt>
-        ensures { result ≡ or_halt (store_halt (env_of self.entry) (known_before (env_of self.entry) self.entry.expressions.now (env_of self.entry).count) j statement) }
+        ensures { result ≡ or_halt (store_halt (env_of self.entry) (known_to_stores self.entry) j statement) }
     {
         let Statement::ImageStore {
             image,
@@ -77,12 +79,12 @@ impl Lists<'_> {
 
     // The first store that a run would halt at decides.
     pub fn check_stores(self) -> Result<(), Halt>
-        ensures { result ≡ or_halt (halting_stores (env_of self.entry) (known_before (env_of self.entry) self.entry.expressions.now (env_of self.entry).count) 0 self.entry.statements.now) }
+        ensures { result ≡ or_halt (stores_halt self.entry) }
     {
-        for (j, statement) in self.statements.iter().enumerate() {
-            self.check_store(j, *statement)?;
-        }
-        Ok(())
+        check_each(
+            self.statements,
+            |j, statement| self.check_store(j, statement),
+        )
     }
 }
 

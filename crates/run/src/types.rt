@@ -4,6 +4,10 @@ ghost use Rattle.run.specs.Types.{scalar_kind, is_integer, is_float, count_in, c
 
 use records::{ImageClass, ScalarKind, TypeInner};
 
+pub const FLOAT: TypeInner = TypeInner::Scalar(ScalarKind::Float);
+
+pub const SINT: TypeInner = TypeInner::Scalar(ScalarKind::Sint);
+
 pub fn scalar_kind(ty: TypeInner) -> Option<ScalarKind>
     ensures { result ≡ scalar_kind ty }
 {

@@ -63,10 +63,9 @@ fn numbers_of(pattern: [SwizzleComponent; 4]) -> [u32; 4]
 }
 
 // The indexes with one more, if it is among the first four.
-fn with_index(indexes: [u32; 4], depth: u32, bits: u32) -> [u32; 4]
+fn with_index(mut indexes: [u32; 4], depth: u32, bits: u32) -> [u32; 4]
     ensures { result ≡ slice_set indexes depth bits }
 {
-    let mut indexes = indexes;
     if depth < 4 {
         indexes[depth as usize] = bits;
     }

@@ -17,24 +17,16 @@ fill zero Four xs = slice_index_or xs 0 zero ∷ slice_index_or xs 1 zero ∷ sl
 
 abbrev pub first_float : Lanes → Float
 first_float (lanes.Float xs) = slice_index_or xs 0 zero_float
-first_float (lanes.Sint xs) = zero_float
-first_float (lanes.Uint xs) = zero_float
-first_float (lanes.Bool xs) = zero_float
+first_float _ = zero_float
 
 abbrev pub first_sint : Lanes → ℤ
-first_sint (lanes.Float xs) = pos 0
 first_sint (lanes.Sint xs) = slice_index_or xs 0 (pos 0)
-first_sint (lanes.Uint xs) = pos 0
-first_sint (lanes.Bool xs) = pos 0
+first_sint _ = pos 0
 
 abbrev pub first_uint : Lanes → ℕ
-first_uint (lanes.Float xs) = 0
-first_uint (lanes.Sint xs) = 0
 first_uint (lanes.Uint xs) = slice_index xs 0
-first_uint (lanes.Bool xs) = 0
+first_uint _ = 0
 
 abbrev pub first_bool : Lanes → Bool
-first_bool (lanes.Float xs) = false
-first_bool (lanes.Sint xs) = false
-first_bool (lanes.Uint xs) = false
 first_bool (lanes.Bool xs) = slice_index_or xs 0 false
+first_bool _ = false

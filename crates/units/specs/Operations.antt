@@ -1,11 +1,11 @@
 -- What operations make of components: total, and right where the types are. A lane past the width is zero.
 use Rattle.std.specs.Prelude.{ℕ, false, List, [], ◌∷◌, pos, slice_index, slice_index_or}
 use Rattle.units.specs.declared.values.Width.{Width}
-use Rattle.units.specs.declared.values.Width.TheVariants.{One}
 use Rattle.units.specs.declared.values.Lanes.{Lanes}
 use Rattle.units.specs.declared.values.Lanes.TheVariants as lanes
 use Rattle.units.specs.declared.values.Components.{Components}
 use Rattle.units.specs.Arithmetic.{zero_float, quotient, nearest, to_sint, bits_to_sint}
+use Rattle.units.specs.Values.{float_scalar}
 use Rattle.units.specs.Lanes.{fill, first_float, first_sint, first_uint, first_bool}
 
 -- lanes by their numbers
@@ -34,10 +34,7 @@ abbrev pub composed : Width → Components → Components → Components → Com
 composed w a b c d = record { width = w; lanes = composed_of w a.lanes b.lanes c.lanes d.lanes }
 
 abbrev pub divided : Components → Components → Components
-divided a b = record {
-  width = One;
-  lanes = lanes.Float (quotient (first_float a.lanes) (first_float b.lanes) ∷ zero_float ∷ zero_float ∷ zero_float ∷ []);
-}
+divided a b = float_scalar (quotient (first_float a.lanes) (first_float b.lanes))
 
 -- f at each lane within the width
 abbrev pub mapped : {X Y : Type 0} → X → Y → (X → Y) → Width → List X → List Y
@@ -45,18 +42,15 @@ mapped x y f w xs = fill y w (f (slice_index_or xs 0 x) ∷ f (slice_index_or xs
 
 abbrev pub rounded_of : Width → Lanes → Lanes
 rounded_of w (lanes.Float xs) = lanes.Float (mapped zero_float zero_float nearest w xs)
-rounded_of w (lanes.Sint xs) = lanes.Sint xs
-rounded_of w (lanes.Uint xs) = lanes.Uint xs
-rounded_of w (lanes.Bool xs) = lanes.Bool xs
+rounded_of w l = l
 
 abbrev pub rounded : Components → Components
 rounded c = record { width = c.width; lanes = rounded_of c.width c.lanes }
 
 abbrev pub casted_of : Width → Lanes → Lanes
 casted_of w (lanes.Float xs) = lanes.Sint (mapped zero_float (pos 0) to_sint w xs)
-casted_of w (lanes.Sint xs) = lanes.Sint xs
 casted_of w (lanes.Uint xs) = lanes.Sint (mapped 0 (pos 0) bits_to_sint w xs)
-casted_of w (lanes.Bool xs) = lanes.Bool xs
+casted_of w l = l
 
 abbrev pub casted : Components → Components
 casted c = record { width = c.width; lanes = casted_of c.width c.lanes }

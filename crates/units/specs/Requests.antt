@@ -10,17 +10,15 @@ use Rattle.units.specs.declared.values.Lanes.TheVariants as lanes
 use Rattle.units.specs.declared.values.Components.{Components}
 use Rattle.units.specs.declared.values.Value.TheVariants.{Number}
 use Rattle.units.specs.declared.requests.Sort.{Sort}
-use Rattle.units.specs.declared.requests.Sort.TheVariants.{Sample, Gather, Load, Store}
+use Rattle.units.specs.declared.requests.Sort.TheVariants.{Gather}
 use Rattle.units.specs.declared.requests.Request.{Request}
 use Rattle.units.specs.Arithmetic.{zero_float}
 use Rattle.units.specs.Lanes.{fill}
 use Rattle.units.specs.Values.{type_of}
 
 abbrev pub is_gather : Sort → Bool
-is_gather Sample = false
 is_gather Gather = true
-is_gather Load = false
-is_gather Store = false
+is_gather _ = false
 
 -- a Depth or comparing request that is no gather is answered by one Float, another by four of the kind
 abbrev pub one_float : Request → Bool

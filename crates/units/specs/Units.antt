@@ -16,7 +16,7 @@ use Rattle.units.specs.declared.colour.ColourUnit.{ColourUnit}
 use Rattle.units.specs.declared.echo.EchoUnit.{EchoUnit}
 use Rattle.units.specs.Arithmetic.{zero_float}
 use Rattle.units.specs.Lanes.{fill, first_float}
-use Rattle.units.specs.Values.{type_of, kind_of}
+use Rattle.units.specs.Values.{float_scalar, type_of, kind_of}
 use Rattle.units.specs.Requests.{one_float, clean, clean_lanes, Answers, Answered, Typed}
 
 abbrev pub no_lanes : ScalarKind → Lanes
@@ -67,19 +67,18 @@ colour_typed u q = answered q _ _ refl refl (colour_type_is u q.kind) (colour_cl
 
 -- the coordinate, filled with zeros, where it has the kind that is asked for
 abbrev pub echo_lanes : ScalarKind → Width → Lanes → Lanes
-echo_lanes kinds.Sint w l = elim l [ lanes.Float xs ↦ no_lanes kinds.Sint | lanes.Sint xs ↦ lanes.Sint (fill (pos 0) w xs) | lanes.Uint xs ↦ no_lanes kinds.Sint | lanes.Bool xs ↦ no_lanes kinds.Sint ]
-echo_lanes kinds.Uint w l = elim l [ lanes.Float xs ↦ no_lanes kinds.Uint | lanes.Sint xs ↦ no_lanes kinds.Uint | lanes.Uint xs ↦ lanes.Uint (fill 0 w xs) | lanes.Bool xs ↦ no_lanes kinds.Uint ]
-echo_lanes kinds.Float w l = elim l [ lanes.Float xs ↦ lanes.Float (fill zero_float w xs) | lanes.Sint xs ↦ no_lanes kinds.Float | lanes.Uint xs ↦ no_lanes kinds.Float | lanes.Bool xs ↦ no_lanes kinds.Float ]
-echo_lanes kinds.Bool w l = elim l [ lanes.Float xs ↦ no_lanes kinds.Bool | lanes.Sint xs ↦ no_lanes kinds.Bool | lanes.Uint xs ↦ no_lanes kinds.Bool | lanes.Bool xs ↦ lanes.Bool (fill false w xs) ]
+echo_lanes kinds.Sint w (lanes.Sint xs) = lanes.Sint (fill (pos 0) w xs)
+echo_lanes kinds.Uint w (lanes.Uint xs) = lanes.Uint (fill 0 w xs)
+echo_lanes kinds.Float w (lanes.Float xs) = lanes.Float (fill zero_float w xs)
+echo_lanes kinds.Bool w (lanes.Bool xs) = lanes.Bool (fill false w xs)
+echo_lanes k w _ = no_lanes k
 
 abbrev pub echo_of : Request → Lanes
 echo_of q = echo_lanes q.kind q.coordinate.width q.coordinate.lanes
 
 abbrev pub echo_answer : EchoUnit → Answers
 echo_answer u q =
-    cond (one_float q)
-    (record { width = One; lanes = lanes.Float (first_float (echo_of q) ∷ zero_float ∷ zero_float ∷ zero_float ∷ []) })
-    (record { width = Four; lanes = echo_of q })
+    cond (one_float q) (float_scalar (first_float (echo_of q))) (record { width = Four; lanes = echo_of q })
 
 -- four lanes of a kind that are their own filling
 record Quad-of (k : ScalarKind) (l : Lanes) : Type 0 where
@@ -93,22 +92,11 @@ filled_again z Three xs = refl
 filled_again z Four xs = refl
 
 echo_quad : (k : ScalarKind) (w : Width) (l : Lanes) → Quad-of k (echo_lanes k w l)
-echo_quad kinds.Sint w (lanes.Float xs) = record { kind_is = refl; filled = refl }
 echo_quad kinds.Sint w (lanes.Sint xs) = record { kind_is = refl; filled = ap lanes.Sint (filled_again (pos 0) w xs) }
-echo_quad kinds.Sint w (lanes.Uint xs) = record { kind_is = refl; filled = refl }
-echo_quad kinds.Sint w (lanes.Bool xs) = record { kind_is = refl; filled = refl }
-echo_quad kinds.Uint w (lanes.Float xs) = record { kind_is = refl; filled = refl }
-echo_quad kinds.Uint w (lanes.Sint xs) = record { kind_is = refl; filled = refl }
 echo_quad kinds.Uint w (lanes.Uint xs) = record { kind_is = refl; filled = ap lanes.Uint (filled_again 0 w xs) }
-echo_quad kinds.Uint w (lanes.Bool xs) = record { kind_is = refl; filled = refl }
 echo_quad kinds.Float w (lanes.Float xs) = record { kind_is = refl; filled = ap lanes.Float (filled_again zero_float w xs) }
-echo_quad kinds.Float w (lanes.Sint xs) = record { kind_is = refl; filled = refl }
-echo_quad kinds.Float w (lanes.Uint xs) = record { kind_is = refl; filled = refl }
-echo_quad kinds.Float w (lanes.Bool xs) = record { kind_is = refl; filled = refl }
-echo_quad kinds.Bool w (lanes.Float xs) = record { kind_is = refl; filled = refl }
-echo_quad kinds.Bool w (lanes.Sint xs) = record { kind_is = refl; filled = refl }
-echo_quad kinds.Bool w (lanes.Uint xs) = record { kind_is = refl; filled = refl }
 echo_quad kinds.Bool w (lanes.Bool xs) = record { kind_is = refl; filled = ap lanes.Bool (filled_again false w xs) }
+echo_quad _ w _ = record { kind_is = refl; filled = refl }
 
 pub echo_typed : (u : EchoUnit) → Typed (echo_answer u)
 echo_typed u q =

@@ -5,7 +5,7 @@ use Rattle.records.specs.declared.types.ScalarKind.TheVariants as kinds
 use Rattle.records.specs.declared.types.VectorSize.{VectorSize}
 use Rattle.records.specs.declared.types.VectorSize.TheVariants.{Bi, Tri, Quad}
 use Rattle.records.specs.declared.types.TypeInner.{TypeInner}
-use Rattle.records.specs.declared.types.TypeInner.TheVariants.{Scalar, Vector, Image, Sampler, BindingArray}
+use Rattle.records.specs.declared.types.TypeInner.TheVariants.{Scalar, Vector, Sampler}
 use Rattle.units.specs.declared.values.Width.{Width}
 use Rattle.units.specs.declared.values.Width.TheVariants.{One, Two, Three, Four}
 use Rattle.units.specs.declared.values.Lanes.{Lanes}
@@ -32,6 +32,7 @@ kind_of (Sint xs) = kinds.Sint
 kind_of (Uint xs) = kinds.Uint
 kind_of (Bool xs) = kinds.Bool
 
+-- a scalar of kind Float
 abbrev pub float_scalar : Binary → Components
 float_scalar x = record { width = One; lanes = Float (x ∷ zero_float ∷ zero_float ∷ zero_float ∷ []) }
 
@@ -45,9 +46,7 @@ shape Four k = Vector Quad k
 abbrev pub as_handle : TypeInner → TypeInner
 as_handle (Scalar k) = Sampler
 as_handle (Vector s k) = Sampler
-as_handle (Image d a c) = Image d a c
-as_handle Sampler = Sampler
-as_handle (BindingArray b) = BindingArray b
+as_handle t = t
 
 abbrev pub type_of : Value → TypeInner
 type_of (Number c) = shape c.width (kind_of c.lanes)

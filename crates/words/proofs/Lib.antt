@@ -1,6 +1,5 @@
 pub mod Walks
 pub mod Counts
 pub mod Waits
-pub mod Rests
 pub mod Spells
 pub mod Lawful

@@ -1,9 +1,9 @@
 -- The walk that takes the operands: those of the bits that are left are still to come.
-use Rattle.std.proofs.Common.{◌≡◌, ℕ, ◌+◌, ◌<◌, Bool, true, false, cond, eqb, ◌⊎◌, List, Some, None, Option, sym, refl, ap, ◌∙◌, subst, inl, inr}
+use Rattle.std.proofs.Common.{◌≡◌, ℕ, ◌+◌, ◌<◌, true, cond, eqb, ◌⊎◌, List, Some, None, Option, sym, refl, ap, ◌∙◌, subst, inl, inr}
 use Rattle.std.proofs.lemmas.Bool.{both_ways, cases_eq, cases_order, eq-eqb, ne_eqb}
 use Rattle.words.specs.declared.operands.ImageOperands.{ImageOperands}
 use Rattle.words.specs.Masks.{has, over, add_words, words_at, words_below}
-use Rattle.words.specs.Operands.{id_at, grad_at, operand, operands_of, no_operands, taken}
+use Rattle.words.specs.Operands.{id_at, grad_at, operand, operands_of, taken}
 use Rattle.words.proofs.Walks.{Turn, over_turn, over_none}
 
 -- a bit that is left is a bit of the mask, and its operand comes after those of the lower bits that are left
@@ -73,24 +73,6 @@ waiting_turn mask n t y next ws first h a =
     let sample = field (id_at ws first) mask n t y next h a 6 in
     let available = field (id_at ws first) mask n t y next h a 8 in
     let visible = field (id_at ws first) mask n t y next h a 9 in
-    cc
-
-none_yet : {X : Type 0} (read : ℕ → X) (mask j : ℕ) → None ≡ wait read mask mask j
-none_yet read mask j = at (has mask j)
-  where
-    at : (b : Bool) → None ≡ cond b None (cond b (Some (read (words_below mask j))) None)
-    at true = refl
-    at false = refl
-
-pub waiting_all : (mask : ℕ) (ws : List ℕ) (first : ℕ) → no_operands mask ≡ waiting mask mask ws first
-waiting_all mask ws first =
-    let bias = none_yet (id_at ws first) mask 0 in
-    let lod = none_yet (id_at ws first) mask 1 in
-    let grad = none_yet (grad_at ws first) mask 2 in
-    let offset = none_yet (id_at ws first) mask 3 in
-    let sample = none_yet (id_at ws first) mask 6 in
-    let available = none_yet (id_at ws first) mask 8 in
-    let visible = none_yet (id_at ws first) mask 9 in
     cc
 
 pub waiting_none : (mask : ℕ) (ws : List ℕ) (first : ℕ) → waiting 0 mask ws first ≡ operands_of mask ws first

@@ -3,9 +3,6 @@ use Rattle.books.specs.Ring.{ends_at}
 use Rattle.books.proofs.Walks.{walk_from, walk_on, walk_past}
 use Rattle.books.proofs.ring.seek.Goals as goal
 
-pub returns-then-n-eq0 : goal.returns-then-n-eq0
-returns-then-n-eq0 g c = walk_past _ c.args.cells.now c.args.id refl (λ j l r. absurd (omega arith))
-
 pub loop-passed-init : goal.loop-passed-init
 loop-passed-init g c = walk_from _ c.args.cells.now c.args.id _ _ (omega arith) c.home-i.ensures refl
 
@@ -15,7 +12,3 @@ loop-passed-preserved g c =
     let w = c.loop-passed in
     let o : ends_at (get_or cs w.i None) c.args.id ≡ false = cc in
     walk_on (length cs) cs c.args.id w.i _ w._passed w.invariant (omega arith) o c.following-i.ensures
-
-pub returns : goal.returns
-returns g c =
-    walk_past _ c.args.cells.now c.args.id refl (λ j l r. c.loop-passed.invariant.passes j l (omega arith))
