@@ -1,8 +1,9 @@
 -- What is known where all checks of an instruction have passed: there is room for every record, and a new id is new.
-use Rattle.std.proofs.Common.{◌≡◌, ℕ, ◌+◌, true, not, ◌&&◌, List, Ok, Option, subst}
+use Rattle.std.proofs.Common.{◌≡◌, ℕ, ◌+◌, true, not, ◌&&◌, List, Ok, Option, Result, subst}
+use Rattle.records.specs.declared.refusals.Error.{Error}
 use Rattle.records.specs.declared.refusals.Error.TheVariants.{InvalidResultId, Full, Mismatch}
 use Rattle.books.specs.Books.{taken}
-use Rattle.records.specs.Refusals.{check}
+use Rattle.records.specs.Refusals.{and_then, check}
 use Rattle.words.specs.Instructions.{instruction}
 use Rattle.words.specs.Opcodes.{row_of}
 use Rattle.words.specs.declared.instructions.Instruction.{Instruction}
@@ -11,13 +12,11 @@ use Rattle.words.specs.declared.opcodes.OperandRule.TheVariants.{Never, Implicit
 use Rattle.memory.specs.Cells.{Cells, room_for}
 use Rattle.memory.specs.Lookups.{new_value, new_couple, has_space}
 use Rattle.memory.specs.Shelves.{Shelf}
-use Rattle.images.specs.Plans.{new_result, sample_finds, sample_read, load_finds, load_read, store_read, couple_read, plan_by, plan_for}
+use Rattle.images.specs.Plans.{new_result, sample_read, load_read, store_read, couple_read, plan_by, plan_for}
 use Rattle.images.specs.Records.{sample_count, load_count, store_count}
 use Rattle.images.specs.Used.{Used, used_in}
 use Rattle.images.specs.declared.instructions.Plan.{Plan}
 use Rattle.images.specs.declared.instructions.Plan.TheVariants as plans
-use Rattle.images.specs.declared.plans.SamplePlan.{SamplePlan}
-use Rattle.images.specs.declared.plans.LoadPlan.{LoadPlan}
 use Rattle.records.specs.declared.lookups.LookupSampledImage.{LookupSampledImage}
 use Rattle.reader.specs.declared.read.ReadPlan.{ReadPlan}
 use Rattle.reader.specs.Checks.{max_expressions, max_statements, state_inside}
@@ -41,16 +40,12 @@ NewFor b id (plans.Load p) = not (taken b.values id) ≡ true
 NewFor b id (plans.Store p) = Unit {0}
 
 module _ (u : Used) (b : Shelf) (i : Instruction) where
-  sample_new : (p : SamplePlan) → sample_read u b i ≡ Ok p → not (taken b.values i.ids.result.id) ≡ true
-  sample_new p is =
-      let parts = passed (sample_finds u b i) _ p is in
-      let one = passed (new_result b i.ids.result) _ parts.got parts.first in
-      both_left _ _ (expect_ok (new_value b i.ids.result.id) (InvalidResultId i.ids.result.place) one.got one.first)
-
-  load_new : (p : LoadPlan) → load_read u b i ≡ Ok p → not (taken b.values i.ids.result.id) ≡ true
-  load_new p is =
-      let parts = passed (load_finds u b i) _ p is in
-      let one = passed (new_result b i.ids.result) _ parts.got parts.first in
+  -- what follows the check that the id of a result is new
+  value_new : {X Y : Type 0} (finds : Unit {0} → Result X Error) (fitted : X → Result Y Error) (y : Y)
+      → and_then (and_then (new_result b i.ids.result) finds) fitted ≡ Ok y → not (taken b.values i.ids.result.id) ≡ true
+  value_new finds fitted y is =
+      let parts = passed (and_then (new_result b i.ids.result) finds) fitted y is in
+      let one = passed (new_result b i.ids.result) finds parts.got parts.first in
       both_left _ _ (expect_ok (new_value b i.ids.result.id) (InvalidResultId i.ids.result.place) one.got one.first)
 
   couple_new : (l : LookupSampledImage) → couple_read u b i ≡ Ok l → not (taken b.couples i.ids.result.id) ≡ true
@@ -60,10 +55,10 @@ module _ (u : Used) (b : Shelf) (i : Instruction) where
 
   by_rule : (p : Plan) (r : OperandRule) → plan_by u b i r ≡ Ok p → NewFor b i.ids.result.id p
   by_rule p Never is = let x = passed (couple_read u b i) _ p is in subst (NewFor b i.ids.result.id) (same_ok _ p x.rest) (couple_new x.got x.first)
-  by_rule p Implicit is = let x = passed (sample_read u b i) _ p is in subst (NewFor b i.ids.result.id) (same_ok _ p x.rest) (sample_new x.got x.first)
-  by_rule p Explicit is = let x = passed (sample_read u b i) _ p is in subst (NewFor b i.ids.result.id) (same_ok _ p x.rest) (sample_new x.got x.first)
-  by_rule p Gather is = let x = passed (sample_read u b i) _ p is in subst (NewFor b i.ids.result.id) (same_ok _ p x.rest) (sample_new x.got x.first)
-  by_rule p Load is = let x = passed (load_read u b i) _ p is in subst (NewFor b i.ids.result.id) (same_ok _ p x.rest) (load_new x.got x.first)
+  by_rule p Implicit is = let x = passed (sample_read u b i) _ p is in subst (NewFor b i.ids.result.id) (same_ok _ p x.rest) (value_new _ _ x.got x.first)
+  by_rule p Explicit is = let x = passed (sample_read u b i) _ p is in subst (NewFor b i.ids.result.id) (same_ok _ p x.rest) (value_new _ _ x.got x.first)
+  by_rule p Gather is = let x = passed (sample_read u b i) _ p is in subst (NewFor b i.ids.result.id) (same_ok _ p x.rest) (value_new _ _ x.got x.first)
+  by_rule p Load is = let x = passed (load_read u b i) _ p is in subst (NewFor b i.ids.result.id) (same_ok _ p x.rest) (value_new _ _ x.got x.first)
   by_rule p Store is = let x = passed (store_read u b i) _ p is in subst (NewFor b i.ids.result.id) (same_ok _ p x.rest) tt
 
 plan_fits : (emitter : Option ℕ) (c : Cells) (b : Shelf) (id : ℕ) (p : Plan) → NewFor b id p → plan_room emitter c b p ≡ true → PlanFits emitter c b id p
