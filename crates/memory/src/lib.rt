@@ -13,4 +13,5 @@ pub use context::BlockContext;
 pub use found::{FoundType, FoundValue};
 pub use id_books::{IdBooks, has_space};
 pub use lists::{Counts, Lists, has_room};
+pub use search::first_equal;
 pub use shelf::Books;

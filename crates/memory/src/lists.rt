@@ -27,7 +27,7 @@ pub struct Counts {
 }
 
 // The first cells of a list, or all where there are fewer.
-fn front<T>(cells: &[T], count: u32) -> &[T]
+pub(crate) fn front<T>(cells: &[T], count: u32) -> &[T]
     ensures { result.now ≡ take count cells.now }
 {
     cells.get(..count as usize).unwrap_or(cells)

@@ -82,17 +82,20 @@ fn operands<W: fmt::Write>(f: &mut fmt::Formatter<W>, operands: &ImageOperands) 
     optional(f, "MakeTexelVisible", operands.make_texel_visible)
 }
 
+// The bits of a mask that take no word.
+const BARE_BITS: [(u32, &str); 3] = [
+    (0x400, "NonPrivateTexel"),
+    (0x800, "VolatileTexel"),
+    (0x4000, "Nontemporal"),
+];
+
 // The mask, with the names of those of its bits that take no word.
 fn mask<W: fmt::Write>(f: &mut fmt::Formatter<W>, place: usize, mask: u32) -> fmt::Result {
     write!(f, "\n  {place:>3}  {:<18}  {mask:x}", "mask")?;
-    if mask & 0x400 != 0 {
-        f.write_str(" NonPrivateTexel")?;
-    }
-    if mask & 0x800 != 0 {
-        f.write_str(" VolatileTexel")?;
-    }
-    if mask & 0x4000 != 0 {
-        f.write_str(" Nontemporal")?;
+    for (bit, name) in BARE_BITS {
+        if mask & bit != 0 {
+            write!(f, " {name}")?;
+        }
     }
     Ok(())
 }

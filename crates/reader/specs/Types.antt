@@ -1,4 +1,4 @@
--- Declaring types: which may be declared, and the search for an equal one.
+-- Which types may be declared.
 use Rattle.std.specs.Prelude.{ℕ, Bool, true, false, not, List, Ok, Result}
 use Rattle.std.specs.Option.{ok_or}
 use Rattle.records.specs.declared.handles.TypeHandle.{TypeHandle}

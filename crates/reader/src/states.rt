@@ -59,11 +59,7 @@ pub(crate) trait ReaderState {
         ensures lists { used_of result.lists ≡ used_in (cells_of (numbers self.now) lists.now) }
         ensures books { result.books.now ≡ books.now }
     {
-        let counts = self.counts();
-        BlockContext {
-            lists: counts.used(lists),
-            books,
-        }
+        self.counts().context(lists, books)
     }
 
     // The checks of a call that makes a value. `found` is what the call itself looked for, and `room` is whether its own

@@ -1,4 +1,4 @@
-// Which types may be declared, and the search for an equal one.
+// Which types may be declared.
 ghost use Rattle.std.specs.Prelude.{◌≡◌, not, None};
 ghost use Rattle.reader.specs.Types.{is_bool, class_fits, is_resource, inner_of, resource_for};
 

@@ -6,7 +6,7 @@ ghost use Rattle.run.specs.Runs.{or_halt, first_halt};
 use crate::passes::Halt;
 
 // The first item that fails a check decides; a check sees an item with its number.
-pub fn check_each<T: Copy, F: Fn(usize, T) -> Result<(), Halt>>(
+pub(crate) fn check_each<T: Copy, F: Fn(usize, T) -> Result<(), Halt>>(
     items: &[T],
     check: F,
 ) -> Result<(), Halt>

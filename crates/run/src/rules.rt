@@ -68,7 +68,7 @@ pub fn splat_type(size: VectorSize, ty: TypeInner) -> Option<TypeInner>
 }
 
 // Whether the first of four, as many as the size says, pass a test.
-pub fn of_first<T: Copy, F: Fn(T) -> bool>(size: VectorSize, four: [T; 4], passes: F) -> bool
+pub(crate) fn of_first<T: Copy, F: Fn(T) -> bool>(size: VectorSize, four: [T; 4], passes: F) -> bool
     requires { F.IsAlwaysCallable passes }
     ensures { (d : T) (test : T → Bool) → ((x : T) (r : Bool) → F.post passes x r → r ≡ test x) → result ≡ of_first size four d test }
 {
