@@ -1,6 +1,6 @@
 // Which image and sampler an instruction means, and which component it gathers.
 ghost use Rattle.std.specs.Prelude.{◌≡◌};
-ghost use Rattle.images.specs.Finds.{expression_at, variable_type, argument_type, inner_at, image_type, resource, element_of, resource_by, resource_at, component_of, component_constant, component_at};
+ghost use Rattle.images.specs.Finds.{expression_at, variable_type, argument_type, inner_at, image_type, resource, element_of, resource_at, component_of, component_at};
 ghost use Rattle.images.specs.Used.{used_of};
 
 use crate::options::array_base;

@@ -1,12 +1,12 @@
 // What each opcode does, which images it may use, and of which types its operands are.
-ghost use Rattle.std.specs.Prelude.{◌≡◌, not};
-ghost use Rattle.images.specs.Rules.{options, sampling_of, place_size, is_cube, gatherable, is_storage, comparable, shape_of, array_base, sample_allows, load_allows, store_allows, is_float_scalar, grad_fits, offset_fits, is_integer_scalar, has_components, is_number, sample_result, texel_type, load_result_fits, stored_fits, vector_size, composed_size};
+ghost use Rattle.std.specs.Prelude.{◌≡◌};
+ghost use Rattle.images.specs.Rules.{sampling_of, place_size, is_cube, gatherable, is_storage, comparable, shape_of, array_base, sample_allows, load_allows, store_allows, is_float_scalar, grad_fits, offset_fits, is_integer_scalar, has_components, is_number, sample_result, load_result_fits, stored_fits, vector_size, composed_size};
 ghost use Rattle.images.specs.Plans.{shape_for};
 
 use records::{Error, ImageClass, ImageDimension, ScalarKind, TypeHandle, TypeInner, VectorSize};
 use run::{
     class_kind, count_in, is_depth, is_float, is_integer_place, is_integer_scalar, kind_in,
-    place_type,
+    place_type, texel_type,
 };
 use words::Opcode;
 
@@ -140,16 +140,6 @@ pub fn array_base(ty: TypeInner) -> Option<TypeHandle>
     match ty {
         TypeInner::BindingArray { base } => Some(base),
         _ => None,
-    }
-}
-
-// The type of a texel of an image that is no Depth image.
-fn texel_type(class: ImageClass) -> TypeInner
-    ensures { result ≡ texel_type class }
-{
-    TypeInner::Vector {
-        size: VectorSize::Quad,
-        kind: class_kind(class),
     }
 }
 

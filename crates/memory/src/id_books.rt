@@ -1,5 +1,5 @@
 // The three id books by their meaning: of types, of values, and of couples of an image and a sampler.
-ghost use Rattle.std.specs.Prelude.{◌≡◌, not, is_some, ◌&&◌, ◌||◌, length, ◌==◌, nat_le};
+ghost use Rattle.std.specs.Prelude.{◌≡◌, not, ◌&&◌, ◌||◌, length, ◌==◌, nat_le};
 ghost use Rattle.records.specs.declared.refusals.Error.TheVariants.{InvalidResultId};
 ghost use Rattle.records.specs.Refusals.{check};
 ghost use Rattle.books.specs.Books.{count, Puts};

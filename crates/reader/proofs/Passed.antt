@@ -1,5 +1,5 @@
 -- What is known where checks have passed.
-use Rattle.std.proofs.Common.{◌≡◌, ℕ, ◌+◌, ◌≤◌, min, Bool, true, false, not, ◌&&◌, length, is_ok, Ok, Err, Result, refl, ap, arith}
+use Rattle.std.proofs.Common.{◌≡◌, ℕ, ◌+◌, ◌≤◌, min, Bool, true, false, not, length, is_ok, Ok, Err, Result, refl, ap, arith}
 use Rattle.std.proofs.lemmas.Bool.{false≢true, leb-true}
 use Rattle.records.specs.declared.refusals.Error.{Error}
 use Rattle.records.specs.Refusals.{and_then, check}
@@ -26,14 +26,6 @@ same_ok x y is = cc
 pub expect_ok : (b : Bool) (e : Error) (u : Unit {0}) → check (not b) e ≡ Ok u → b ≡ true
 expect_ok true e u is = refl
 expect_ok false e u is = absurd (never_ok e u is)
-
-pub both_left : (a b : Bool) → (a && b) ≡ true → a ≡ true
-both_left true b is = refl
-both_left false b is = absurd (false≢true is)
-
-pub both_right : (a b : Bool) → (a && b) ≡ true → b ≡ true
-both_right true b is = is
-both_right false b is = absurd (false≢true is)
 
 -- where n more records fit, the next n cells are there, and below the limit
 pub room_cells : {X : Type 0} (n : ℕ) (f : Filled X) (limit : ℕ) → room_for n f limit ≡ true → RoomIn (length f.cells) f.count n limit

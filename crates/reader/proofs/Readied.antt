@@ -22,14 +22,15 @@ use Rattle.reader.specs.declared.read.ReadPlan.{ReadPlan}
 use Rattle.reader.specs.Checks.{max_expressions, max_statements, state_inside}
 use Rattle.reader.specs.Reads.{store_cells, plan_room, read_checks}
 use Rattle.reader.specs.Fits.{ResultFits, PlanFits}
-use Rattle.reader.proofs.Passed.{passed, same_ok, expect_ok, both_left, both_right, room_cells}
+use Rattle.std.proofs.lemmas.Bool.{and_parts}
+use Rattle.reader.proofs.Passed.{passed, same_ok, expect_ok, room_cells}
 
 result_fits : (c : Cells) (b : Shelf) (id n : ℕ) → not (taken b.values id) ≡ true
     → (room_for n c.expressions max_expressions && has_space b.values) ≡ true → ResultFits c b id n
 result_fits c b id n new room = record {
   new = new;
-  space = both_right (room_for n c.expressions max_expressions) _ room;
-  expressions = room_cells n c.expressions max_expressions (both_left _ (has_space b.values) room);
+  space = (and_parts (room_for n c.expressions max_expressions) _ room).1;
+  expressions = room_cells n c.expressions max_expressions (and_parts _ (has_space b.values) room).0;
 }
 
 -- the id of a result is new in its own book
@@ -46,12 +47,12 @@ module _ (u : Used) (b : Shelf) (i : Instruction) where
   value_new finds fitted y is =
       let parts = passed (and_then (new_result b i.ids.result) finds) fitted y is in
       let one = passed (new_result b i.ids.result) finds parts.got parts.first in
-      both_left _ _ (expect_ok (new_value b i.ids.result.id) (InvalidResultId i.ids.result.place) one.got one.first)
+      (and_parts _ _ (expect_ok (new_value b i.ids.result.id) (InvalidResultId i.ids.result.place) one.got one.first)).0
 
   couple_new : (l : LookupSampledImage) → couple_read u b i ≡ Ok l → not (taken b.couples i.ids.result.id) ≡ true
   couple_new l is =
       let one = passed (check (not (new_couple b i.ids.result.id)) (InvalidResultId i.ids.result.place)) _ l is in
-      both_left _ _ (expect_ok (new_couple b i.ids.result.id) (InvalidResultId i.ids.result.place) one.got one.first)
+      (and_parts _ _ (expect_ok (new_couple b i.ids.result.id) (InvalidResultId i.ids.result.place) one.got one.first)).0
 
   by_rule : (p : Plan) (r : OperandRule) → plan_by u b i r ≡ Ok p → NewFor b i.ids.result.id p
   by_rule p Never is = let x = passed (couple_read u b i) _ p is in subst (NewFor b i.ids.result.id) (same_ok _ p x.rest) (couple_new x.got x.first)
@@ -68,8 +69,8 @@ plan_fits emitter c b id (plans.Load p) new room = result_fits c b id (load_coun
 plan_fits emitter c b id (plans.Store p) new room =
     let n = store_cells emitter (c.expressions.count + store_count p) in
     record {
-      expressions = room_cells (store_count p) c.expressions max_expressions (both_left _ (room_for n c.statements max_statements) room);
-      statements = room_cells n c.statements max_statements (both_right (room_for (store_count p) c.expressions max_expressions) _ room);
+      expressions = room_cells (store_count p) c.expressions max_expressions (and_parts _ (room_for n c.statements max_statements) room).0;
+      statements = room_cells n c.statements max_statements (and_parts (room_for (store_count p) c.expressions max_expressions) _ room).1;
     }
 
 -- what the checks of an instruction leave to know

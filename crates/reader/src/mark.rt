@@ -1,5 +1,5 @@
 // Setting a sampling flag on a variable or argument.
-ghost use Rattle.std.specs.Prelude.{◌≡◌, ℕ, slice_get, slice_set, MatchOption};
+ghost use Rattle.std.specs.Prelude.{◌≡◌, slice_get, slice_set, MatchOption};
 ghost use Rattle.memory.specs.Cells.{cells_of};
 ghost use Rattle.memory.specs.declared.lists.Counts.{Counts};
 ghost use Rattle.reader.specs.Reads.{flagged};

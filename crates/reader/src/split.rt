@@ -2,7 +2,6 @@
 ghost use Rattle.std.specs.Prelude.{◌≡◌, ◌+◌, [], ◌∷◌};
 ghost use Rattle.records.specs.Expressions.{access_index, divide};
 ghost use Rattle.images.specs.Records.{at, place_records, place_count, place_last, layer_records, layer_count, layer_last, projected_records, projected_count, projected_last, cut_record, split_records, split_count, split_place, split_layer};
-ghost use Rattle.images.specs.Rules.{place_size};
 ghost use Rattle.reader.specs.Writes.{Room, Appends};
 
 use crate::arena::Arena;

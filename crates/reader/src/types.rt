@@ -1,5 +1,5 @@
 // Which types may be declared.
-ghost use Rattle.std.specs.Prelude.{◌≡◌, not, None};
+ghost use Rattle.std.specs.Prelude.{◌≡◌};
 ghost use Rattle.reader.specs.Types.{is_bool, class_fits, is_resource, inner_of, resource_for};
 
 use crate::append::unplaced;

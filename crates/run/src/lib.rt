@@ -27,4 +27,4 @@ pub use rules::{Miss, is_integer_place, is_integer_scalar, place_type};
 pub use runs::{Outcome, run};
 pub use statics::{is_depth, literal_type};
 pub use stores::store_request_of;
-pub use types::{class_kind, count_in, is_float, is_integer, kind_in};
+pub use types::{class_kind, count_in, is_float, is_integer, kind_in, texel_type};

@@ -6,10 +6,10 @@ ghost use Rattle.run.specs.Rules.{literal_type, is_depth, answered_by, sampled_b
 ghost use Rattle.run.specs.Statics.{type_by, element_type, sampled_type, loaded_type, static_tag, static};
 
 use crate::lists::Lists;
-use crate::types::{FLOAT, SINT, class_kind, kind_in};
+use crate::types::{FLOAT, SINT, kind_in, texel_type};
 use records::{
     Expression, ExpressionHandle, ExpressionTag, ImageClass, Literal, ScalarKind, TypeHandle,
-    TypeInner, VectorSize,
+    TypeInner,
 };
 
 pub fn literal_type(literal: Literal) -> TypeInner
@@ -31,13 +31,7 @@ pub fn is_depth(class: ImageClass) -> bool
 pub fn answered_by(one: bool, class: ImageClass) -> TypeInner
     ensures { result ≡ answered_by one class }
 {
-    if one {
-        return FLOAT;
-    }
-    TypeInner::Vector {
-        size: VectorSize::Quad,
-        kind: class_kind(class),
-    }
+    if one { FLOAT } else { texel_type(class) }
 }
 
 // The type of what a sample or gather of an image of a class comes to.

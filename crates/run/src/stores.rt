@@ -11,8 +11,8 @@ use crate::checks::check_each;
 use crate::lists::Lists;
 use crate::passes::Halt;
 use crate::requests::{components_at, image_request};
-use crate::types::class_kind;
-use records::{ExpressionHandle, Statement, TypeInner, VectorSize};
+use crate::types::texel_type;
+use records::{ExpressionHandle, Statement, TypeInner};
 use units::{Request, Sort, Value};
 
 impl Before<'_> {
@@ -35,10 +35,7 @@ impl Before<'_> {
         else {
             return false;
         };
-        let texel = TypeInner::Vector {
-            size: VectorSize::Quad,
-            kind: class_kind(class),
-        };
+        let texel = texel_type(class);
         self.is_integer_place(coordinate, dim)
             && self.layer_fits(arrayed, layer)
             && self.is(value, texel)

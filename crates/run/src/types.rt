@@ -1,8 +1,10 @@
 // Tests on types, and what an operation makes of the types of its operands.
 ghost use Rattle.std.specs.Prelude.{◌≡◌};
+ghost use Rattle.records.specs.declared.types.TypeInner.TheVariants.{Vector};
+ghost use Rattle.records.specs.declared.types.VectorSize.TheVariants.{Quad};
 ghost use Rattle.run.specs.Types.{scalar_kind, is_integer, is_float, count_in, class_kind, kind_in, part_type};
 
-use records::{ImageClass, ScalarKind, TypeInner};
+use records::{ImageClass, ScalarKind, TypeInner, VectorSize};
 
 pub const FLOAT: TypeInner = TypeInner::Scalar(ScalarKind::Float);
 
@@ -45,6 +47,16 @@ pub fn class_kind(class: ImageClass) -> ScalarKind
     match class {
         ImageClass::Sampled { kind, .. } | ImageClass::Storage { kind } => kind,
         ImageClass::Depth { .. } => ScalarKind::Float,
+    }
+}
+
+// What a texel of an image comes to: four of its kind.
+pub fn texel_type(class: ImageClass) -> TypeInner
+    ensures { result ≡ Vector Quad (class_kind class) }
+{
+    TypeInner::Vector {
+        size: VectorSize::Quad,
+        kind: class_kind(class),
     }
 }
 

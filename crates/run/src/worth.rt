@@ -1,6 +1,5 @@
 // What each expression is worth, from the values of its operands.
 ghost use Rattle.std.specs.Prelude.{◌≡◌, slice_set};
-ghost use Rattle.units.specs.Requests.{clean};
 ghost use Rattle.run.specs.Envs.{env_of};
 ghost use Rattle.run.specs.Runs.{value_at, input_at};
 ghost use Rattle.run.specs.Worth.{literal_components, whole, index_bits, element_of, numbers_of, computed_tag, worth};

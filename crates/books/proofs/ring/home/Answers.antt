@@ -1,6 +1,5 @@
-use Rattle.std.proofs.Common.{◌/◌, refl, arith}
-use Rattle.std.proofs.lemmas.Nat.{xor_lt}
-use Rattle.books.specs.Ring.{mixed, home}
+use Rattle.std.proofs.Common.{refl}
+use Rattle.books.specs.Ring.{home}
 use Rattle.books.proofs.ring.home.Goals as goal
 
 pub returns : goal.returns

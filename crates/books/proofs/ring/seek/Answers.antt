@@ -1,6 +1,6 @@
 use Rattle.std.proofs.Common.{◌≡◌, false, length, get_or, None, refl, arith}
 use Rattle.books.specs.Ring.{ends_at}
-use Rattle.books.proofs.Walks.{walk_from, walk_on, walk_past}
+use Rattle.books.proofs.Walks.{walk_from, walk_on}
 use Rattle.books.proofs.ring.seek.Goals as goal
 
 pub loop-passed-init : goal.loop-passed-init
