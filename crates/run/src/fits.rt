@@ -4,7 +4,7 @@ ghost use Rattle.run.specs.Statics.{known_by};
 ghost use Rattle.run.specs.Rules.{layer_fits, offset_fits, float_fits, integer_fits, level_fits, sample_fits, load_fits, sample_type, load_type, composes, compose_type};
 
 use crate::before::Before;
-use crate::rules::{Miss, of_first, place_type};
+use crate::rules::{Miss, none_or, of_first, place_type};
 use crate::statics::{answered_by, is_depth, sampled_by};
 use crate::types::{FLOAT, SINT};
 use records::{
@@ -25,28 +25,19 @@ impl Before<'_> {
     fn offset_fits(self, dim: ImageDimension, offset: Option<ExpressionHandle>) -> bool
         ensures { result ≡ offset_fits (known_by self.entry) dim offset }
     {
-        match offset {
-            Some(offset) => self.is_integer_place(offset, dim),
-            None => true,
-        }
+        none_or(offset, |offset| self.is_integer_place(offset, dim))
     }
 
     fn float_fits(self, operand: Option<ExpressionHandle>) -> bool
         ensures { result ≡ float_fits (known_by self.entry) operand }
     {
-        match operand {
-            Some(operand) => self.is(operand, FLOAT),
-            None => true,
-        }
+        none_or(operand, |operand| self.is(operand, FLOAT))
     }
 
     fn integer_fits(self, operand: Option<ExpressionHandle>) -> bool
         ensures { result ≡ integer_fits (known_by self.entry) operand }
     {
-        match operand {
-            Some(operand) => self.is_integer(operand),
-            None => true,
-        }
+        none_or(operand, |operand| self.is_integer(operand))
     }
 
     fn level_fits(self, dim: ImageDimension, level: SampleLevel) -> bool

@@ -4,7 +4,7 @@ ghost use Rattle.run.specs.Envs.{env_of};
 ghost use Rattle.run.specs.Rules.{inside_one, inside_option, inside_level, inside_components, inside_image, inside_tag, inside_result};
 
 use crate::lists::Lists;
-use crate::rules::of_first;
+use crate::rules::{none_or, of_first};
 use records::{Expression, ExpressionHandle, ExpressionTag, SampleLevel, TypeHandle, VectorSize};
 
 impl Lists<'_> {
@@ -17,10 +17,7 @@ impl Lists<'_> {
     pub fn has_option(self, handle: Option<ExpressionHandle>) -> bool
         ensures { result ≡ inside_option (env_of self.entry) handle }
     {
-        match handle {
-            Some(handle) => self.has(handle),
-            None => true,
-        }
+        none_or(handle, |handle| self.has(handle))
     }
 
     fn has_level(self, level: SampleLevel) -> bool
@@ -56,10 +53,7 @@ impl Lists<'_> {
     pub fn has_result(self, handle: Option<TypeHandle>) -> bool
         ensures { result ≡ inside_result (env_of self.entry) handle }
     {
-        match handle {
-            Some(handle) => self.type_at(handle).is_some(),
-            None => true,
-        }
+        none_or(handle, |handle| self.type_at(handle).is_some())
     }
 
     // Whether all numbers that the record uses lie inside.

@@ -1,5 +1,6 @@
 // What each expression needs, and the type of what it comes to. No value is looked at.
 ghost use Rattle.std.specs.Prelude.{◌≡◌, Bool};
+ghost use Rattle.run.specs.Types.{none_or};
 ghost use Rattle.run.specs.Rules.{is_int, of_first, texture_type, number_type, splat_type, has_pattern, swizzle_type, cast_type, place_type};
 ghost use Rattle.records.specs.declared.types.TypeInner.TheVariants.{Scalar};
 
@@ -65,6 +66,17 @@ pub fn splat_type(size: VectorSize, ty: TypeInner) -> Option<TypeInner>
 {
     let kind = scalar_kind(ty)?;
     Some(TypeInner::Vector { size, kind })
+}
+
+// Whether what may be missing is missing, or passes a test.
+pub(crate) fn none_or<T: Copy, F: Fn(T) -> bool>(item: Option<T>, passes: F) -> bool
+    requires { F.IsAlwaysCallable passes }
+    ensures { (test : T → Bool) → ((x : T) (r : Bool) → F.post passes x r → r ≡ test x) → result ≡ none_or test item }
+{
+    match item {
+        Some(item) => passes(item),
+        None => true,
+    }
 }
 
 // Whether the first of four, as many as the size says, pass a test.
