@@ -64,7 +64,7 @@ fn one_or_two(splat: Option<VectorSize>) -> u32
     ensures value { result ≡ one_or_two splat }
     ensures bound { result ≤ 2 }
 {
-    if splat.is_some() { 2 } else { 1 }
+    1 + u32::from(splat.is_some())
 }
 
 impl SamplePlan {

@@ -6,7 +6,7 @@ ghost use Rattle.images.specs.Used.{used_of};
 use crate::options::array_base;
 use records::{
     Error, Expression, ExpressionHandle, ExpressionTag, FunctionArgumentHandle,
-    GlobalVariableHandle, Literal, SwizzleComponent, TypeHandle, TypeInner,
+    GlobalVariableHandle, Literal, SwizzleComponent, TypeHandle, TypeInner, expect,
 };
 use run::Lists as UsedLists;
 use units::{Root, bits_of_sint};
@@ -61,11 +61,8 @@ pub fn get_image_expr_ty(
         ExpressionTag::GlobalVariable => variable_type(lists, e.variable),
         ExpressionTag::FunctionArgument => argument_type(lists, e.argument),
         ExpressionTag::Access => {
-            if e.base.index < handle.index {
-                get_image_expr_ty(lists, place, e.base)
-            } else {
-                Err(Error::Mismatch)
-            }
+            expect(e.base.index < handle.index, Error::Mismatch)?;
+            get_image_expr_ty(lists, place, e.base)
         }
         _ => Err(Error::InvalidImageExpression(place)),
     }

@@ -4,7 +4,7 @@ ghost use Rattle.std.specs.Prelude.{◌≡◌, ◌<◌, ◌^◌, length, take};
 use crate::lists::{Counts, Lists};
 use run::Lists as UsedLists;
 
-// As naga's block context.
+// As naga's block context; `Counts::context` makes one.
 #[derive(Drop)]
 pub struct BlockContext<'a, B> {
     pub lists: UsedLists<'a>,

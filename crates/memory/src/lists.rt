@@ -15,7 +15,7 @@ pub struct Lists<'a> {
 }
 
 // How many cells of each list are used, from the first on, and how many values were brought.
-#[derive(Clone, Copy)]
+#[derive(Clone, Copy, Default)]
 pub struct Counts {
     pub types: u32,
     pub variables: u32,

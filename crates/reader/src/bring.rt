@@ -38,7 +38,7 @@ fn find_element<B: IdBooks>(
     let base = ctx.find_value(unplaced(base))?;
     let index = ctx.find_value(unplaced(index))?;
     let ty = array_base(base.inner).ok_or(Error::InvalidType(0))?;
-    let _ = ctx.lists.type_at(ty).ok_or(Error::Mismatch)?;
+    expect(ctx.lists.type_at(ty).is_some(), Error::Mismatch)?;
     expect(
         is_integer_scalar(Some(index.inner)),
         Error::InvalidOperand(0),

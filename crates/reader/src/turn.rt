@@ -11,16 +11,6 @@ use books::is_empty;
 use memory::{Counts, IdBooks, Lists};
 use records::{EmitRange, Error, MAX_STATEMENTS, Statement, expect};
 
-const NO_COUNTS: Counts = Counts {
-    types: 0,
-    variables: 0,
-    arguments: 0,
-    constants: 0,
-    expressions: 0,
-    statements: 0,
-    brought: 0,
-};
-
 impl Emitter {
     // The statement that covers the range up to the last expression, unless the range is empty.
     pub(crate) fn finish(&self, expressions: u32) -> Option<Statement>
@@ -40,7 +30,9 @@ pub fn set_up<B: IdBooks>(books: &B) -> Result<AtRest, Error>
 {
     let empty = is_empty(books.types()) && is_empty(books.values()) && is_empty(books.couples());
     expect(empty, Error::Mismatch)?;
-    Ok(AtRest { counts: NO_COUNTS })
+    Ok(AtRest {
+        counts: Counts::default(),
+    })
 }
 
 impl AtRest {
