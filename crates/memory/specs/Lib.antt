@@ -3,3 +3,4 @@ pub mod Shelves
 pub mod Lookups
 pub mod Firsts
 pub mod Asks
+pub mod Rooms

@@ -1,6 +1,7 @@
 // The six lists that the caller lends, and how much of each is used.
-ghost use Rattle.std.specs.Prelude.{◌≡◌, ◌+◌, min, take, nat_le};
+ghost use Rattle.std.specs.Prelude.{◌≡◌, ◌+◌, min, true, take, nat_le};
 ghost use Rattle.memory.specs.Cells.{cells_of, counts_inside};
+ghost use Rattle.memory.specs.Rooms.{RoomIn};
 
 use records::{Constant, Expression, FunctionArgument, GlobalVariable, Statement, TypeInner};
 use run::Lists as UsedLists;
@@ -35,7 +36,8 @@ pub(crate) fn front<T>(cells: &[T], count: u32) -> &[T]
 
 // Whether some more records fit into a list: a cell is free if it is lent, not used and below the limit.
 pub fn has_room(count: u32, more: u32, cells: usize, limit: usize) -> bool
-    ensures { result ≡ nat_le (count + more) (min cells limit) }
+    ensures value { result ≡ nat_le (count + more) (min cells limit) }
+    ensures room { result ≡ true → RoomIn cells count more limit }
 {
     count as usize + more as usize <= cells.min(limit)
 }

@@ -4,7 +4,7 @@ use Rattle.std.proofs.lemmas.Bool.{false≢true, leb-true}
 use Rattle.records.specs.declared.refusals.Error.{Error}
 use Rattle.records.specs.Refusals.{and_then, check}
 use Rattle.memory.specs.Cells.{Filled, room_for}
-use Rattle.reader.specs.Rooms.{RoomIn}
+use Rattle.memory.specs.Rooms.{RoomIn}
 
 never_ok : {X : Type 0} (e : Error) (x : X) → Err e ≡ Ok x → ⊥
 never_ok e x is = false≢true (ap is_ok is)

@@ -10,7 +10,7 @@ use Rattle.images.specs.declared.instructions.Plan.TheVariants as plans
 use Rattle.images.specs.declared.plans.StorePlan.{StorePlan}
 use Rattle.reader.specs.Checks.{max_types, max_expressions, max_statements}
 use Rattle.reader.specs.Reads.{store_cells}
-use Rattle.reader.specs.Rooms.{RoomIn}
+use Rattle.memory.specs.Rooms.{RoomIn}
 use Rattle.reader.specs.declared.declare.TypePlan.{TypePlan}
 
 -- a value under a new id fits, and `room` is whether the call's own list has a free cell

@@ -1,6 +1,5 @@
 pub mod States
 pub mod Checks
-pub mod Rooms
 pub mod Types
 pub mod Updates
 pub mod Declares

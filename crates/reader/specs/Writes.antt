@@ -4,7 +4,7 @@ use Rattle.std.specs.List.{slice_get}
 use Rattle.records.specs.declared.expressions.Expression.{Expression}
 use Rattle.reader.specs.declared.arena.Arena.{Arena}
 use Rattle.reader.specs.Checks.{max_expressions}
-use Rattle.reader.specs.Rooms.{RoomIn}
+use Rattle.memory.specs.Rooms.{RoomIn}
 
 abbrev pub written : {X : Type 0} → List X → ℕ → List X → List X
 written cells u [] = cells

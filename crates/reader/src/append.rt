@@ -1,13 +1,13 @@
 // One record more in a list, and one value more, which an id names.
-ghost use Rattle.std.specs.Prelude.{◌≡◌, ◌+◌, ◌<◌, min, not, true, length, nat_le, slice_set};
+ghost use Rattle.std.specs.Prelude.{◌≡◌, ◌+◌, ◌<◌, not, true, length, slice_set};
 ghost use Rattle.books.specs.Books.{taken};
 ghost use Rattle.memory.specs.Cells.{cells_of};
 ghost use Rattle.memory.specs.Lookups.{has_space};
 ghost use Rattle.reader.specs.Checks.{max_expressions};
-ghost use Rattle.reader.specs.Rooms.{RoomIn};
+ghost use Rattle.memory.specs.Rooms.{RoomIn};
 ghost use Rattle.reader.specs.Updates.{push_expression, put_value, lookup_at};
 
-use memory::{Counts, IdBooks, Lists, has_room};
+use memory::{Counts, IdBooks, Lists};
 use records::{Expression, ExpressionHandle, LookupExpression, TypeHandle};
 use words::IdRef;
 
@@ -16,14 +16,6 @@ pub(crate) fn unplaced(id: u32) -> IdRef
     ensures { result ≡ record { id = id; place = 0 } }
 {
     IdRef { id, place: 0 }
-}
-
-// Whether some more records fit into a list of so many cells, of which `count` are used.
-pub(crate) fn fits(count: u32, more: u32, cells: usize, limit: usize) -> bool
-    ensures value { result ≡ nat_le (count + more) (min cells limit) }
-    ensures room { result ≡ true → RoomIn cells count more limit }
-{
-    has_room(count, more, cells, limit)
 }
 
 // Appends a record to a list of which `count` cells are used, and answers its number.

@@ -3,7 +3,7 @@ ghost use Rattle.std.specs.Prelude.{◌≡◌, ◌+◌, length};
 ghost use Rattle.images.specs.Records.{at, reference_records, reference_count, divided_reference, sample_records, sample_count, splatted_to, one_or_two, load_records, load_count, widened, widened_count, widened_value, store_records, store_count, split_place, split_layer, split_count};
 ghost use Rattle.reader.specs.Reads.{last_of, sample_lookup, load_lookup};
 ghost use Rattle.reader.specs.Checks.{max_expressions};
-ghost use Rattle.reader.specs.Rooms.{RoomIn};
+ghost use Rattle.memory.specs.Rooms.{RoomIn};
 ghost use Rattle.reader.specs.Writes.{written, Room, Appends};
 
 use crate::arena::Arena;

@@ -7,7 +7,7 @@ ghost use Rattle.reader.specs.Reads.{plan_step, sample_lookup, load_lookup, stor
 ghost use Rattle.reader.specs.Turns.{closed};
 ghost use Rattle.reader.specs.Checks.{max_statements};
 ghost use Rattle.reader.specs.Fits.{ResultFits, StoreFits};
-ghost use Rattle.reader.specs.Rooms.{RoomIn};
+ghost use Rattle.memory.specs.Rooms.{RoomIn};
 
 use crate::append::push;
 use crate::commit::{append_load, append_sample, append_store};

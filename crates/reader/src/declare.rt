@@ -5,12 +5,12 @@ ghost use Rattle.reader.specs.States.{at_rest};
 ghost use Rattle.reader.specs.Declares.{type_checks, type_placed, type_handle, declares_type, declares_variable, declares_argument, literal_for, declares_constant};
 ghost use Rattle.reader.specs.Checks.{max_types};
 ghost use Rattle.reader.specs.Fits.{TypeFits};
-ghost use Rattle.reader.specs.Rooms.{RoomIn};
+ghost use Rattle.memory.specs.Rooms.{RoomIn};
 
-use crate::append::{append_value, fits, push, unplaced};
+use crate::append::{append_value, push, unplaced};
 use crate::states::{AtRest, ReaderState};
 use crate::types::{TypeDeclaration, declared_inner, find_resource};
-use memory::{BlockContext, IdBooks, Lists, has_space};
+use memory::{BlockContext, IdBooks, Lists, has_room, has_space};
 use records::{
     Constant, ConstantHandle, Error, Expression, FunctionArgument, FunctionArgumentHandle,
     GlobalVariable, GlobalVariableHandle, Literal, LookupExpression, LookupType, MAX_ARGUMENTS,
@@ -55,7 +55,7 @@ impl AtRest {
         let ctx = self.context(lists, books);
         let inner = declared_inner(&ctx, declaration)?;
         let found = ctx.first_equal(inner);
-        let room = found.is_some() || fits(self.counts.types, 1, lists.types.len(), MAX_TYPES);
+        let room = found.is_some() || has_room(self.counts.types, 1, lists.types.len(), MAX_TYPES);
         expect(room && has_space(books.types()), Error::Full)?;
         Ok(TypePlan { inner, found })
     }
@@ -100,7 +100,7 @@ impl AtRest {
         ensures answer { result ≡ (declares_variable (at_rest self.old lists.old (B.shelf books.old)) id ty).answer }
     {
         let found = find_resource(&self.context(lists, books), ty);
-        let room = fits(
+        let room = has_room(
             self.counts.variables,
             1,
             lists.variables.len(),
@@ -127,7 +127,7 @@ impl AtRest {
         ensures answer { result ≡ (declares_argument (at_rest self.old lists.old (B.shelf books.old)) id ty).answer }
     {
         let found = find_resource(&self.context(lists, books), ty);
-        let room = fits(
+        let room = has_room(
             self.counts.arguments,
             1,
             lists.arguments.len(),
@@ -155,7 +155,7 @@ impl AtRest {
         ensures answer { result ≡ (declares_constant (at_rest self.old lists.old (B.shelf books.old)) id ty literal).answer }
     {
         let found = find_scalar(&self.context(lists, books), ty, literal);
-        let room = fits(
+        let room = has_room(
             self.counts.constants,
             1,
             lists.constants.len(),

@@ -6,10 +6,9 @@ ghost use Rattle.reader.specs.Fits.{PlanFits};
 ghost use Rattle.reader.specs.States.{reading};
 ghost use Rattle.reader.specs.Reads.{plan_room, read_checks, store_cells, store_room, reads};
 
-use crate::append::fits;
 use crate::states::{ReaderState, Reading};
 use images::{Plan, StorePlan, parse_image_instruction};
-use memory::{IdBooks, Lists, has_space};
+use memory::{IdBooks, Lists, has_room, has_space};
 use records::{
     Error, LookupExpression, LookupSampledImage, MAX_EXPRESSIONS, MAX_STATEMENTS, expect,
 };
@@ -41,7 +40,7 @@ impl Reading {
     fn expression_room(&self, more: u32, lists: &Lists<'_>) -> bool
         ensures { result ≡ room_for more (cells_of self.now.counts lists.now).expressions max_expressions }
     {
-        fits(
+        has_room(
             self.counts.expressions,
             more,
             lists.expressions.len(),
@@ -57,7 +56,7 @@ impl Reading {
             return false;
         }
         let cells = self.store_cells(self.counts.expressions + count);
-        fits(
+        has_room(
             self.counts.statements,
             cells,
             lists.statements.len(),

@@ -8,8 +8,8 @@ ghost use Rattle.memory.specs.declared.lists.Counts.{Counts as Numbers};
 ghost use Rattle.reader.specs.Checks.{state_inside, value_checks};
 ghost use Rattle.reader.specs.Fits.{ValueFits};
 
-use crate::append::{fits, unplaced};
-use memory::{BlockContext, Counts, IdBooks, Lists, has_space};
+use crate::append::unplaced;
+use memory::{BlockContext, Counts, IdBooks, Lists, has_room, has_space};
 use records::{Error, MAX_EXPRESSIONS, MAX_STATEMENTS, expect};
 
 // Where the open emit range begins: the first expression that no statement covers yet.
@@ -79,7 +79,7 @@ pub(crate) trait ReaderState {
         books.expect_new_value(unplaced(id))?;
         let found = found?;
         let count = self.counts().expressions;
-        let expressions = fits(count, 1, lists.expressions.len(), MAX_EXPRESSIONS);
+        let expressions = has_room(count, 1, lists.expressions.len(), MAX_EXPRESSIONS);
         expect(
             room && (expressions && has_space(books.values())),
             Error::Full,
@@ -114,7 +114,7 @@ impl ReaderState for Reading {
     // The statement cell that is held for finish is there, too.
     fn is_inside(&self, lists: &Lists<'_>) -> bool {
         let counts = self.counts;
-        let held = fits(counts.statements, 1, lists.statements.len(), MAX_STATEMENTS);
+        let held = has_room(counts.statements, 1, lists.statements.len(), MAX_STATEMENTS);
         counts.inside(lists) && (self.emitter.start_len <= counts.expressions && held)
     }
 }

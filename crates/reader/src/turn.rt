@@ -5,10 +5,9 @@ ghost use Rattle.memory.specs.Cells.{cells_of};
 ghost use Rattle.reader.specs.States.{at_rest, reading};
 ghost use Rattle.reader.specs.Turns.{set_up, start_checks, starts, after_start, emit, finishes, after_finish};
 
-use crate::append::fits;
 use crate::states::{AtRest, Emitter, ReaderState, Reading};
 use books::is_empty;
-use memory::{Counts, IdBooks, Lists};
+use memory::{Counts, IdBooks, Lists, has_room};
 use records::{EmitRange, Error, MAX_STATEMENTS, Statement, expect};
 
 impl Emitter {
@@ -40,7 +39,7 @@ impl AtRest {
         ensures { result ≡ start_checks (cells_of self.now.counts lists.now) }
     {
         self.expect_inside(lists)?;
-        let room = fits(
+        let room = has_room(
             self.counts.statements,
             1,
             lists.statements.len(),
