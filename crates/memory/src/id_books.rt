@@ -4,7 +4,7 @@ ghost use Rattle.records.specs.declared.refusals.Error.TheVariants.{InvalidResul
 ghost use Rattle.records.specs.Refusals.{check};
 ghost use Rattle.books.specs.Books.{count, Puts};
 ghost use Rattle.memory.specs.Shelves.{Shelf, LawfulShelf};
-ghost use Rattle.memory.specs.Lookups.{new_type, new_value, new_couple, is_free, type_for, value_for};
+ghost use Rattle.memory.specs.Lookups.{new_type, new_value, new_couple, is_new, is_free, type_for, value_for};
 
 use crate::found::{FoundType, FoundValue};
 use books::LookupHelper;
@@ -59,19 +59,19 @@ pub trait IdBooks {
     final fn is_new_type(&self, id: u32) -> bool
         ensures { result ≡ new_type (shelf self.now) id }
     {
-        is_legal(self.types(), id) && self.is_free(id)
+        is_new(self.types(), self.values(), self.couples(), id)
     }
 
     final fn is_new_value(&self, id: u32) -> bool
         ensures { result ≡ new_value (shelf self.now) id }
     {
-        is_legal(self.values(), id) && self.is_free(id)
+        is_new(self.values(), self.types(), self.couples(), id)
     }
 
     final fn is_new_couple(&self, id: u32) -> bool
         ensures { result ≡ new_couple (shelf self.now) id }
     {
-        is_legal(self.couples(), id) && self.is_free(id)
+        is_new(self.couples(), self.types(), self.values(), id)
     }
 
     final fn expect_new_value(&self, id: IdRef) -> Result<(), Error>
@@ -115,6 +115,21 @@ fn is_legal<R, B: LookupHelper<R>>(book: &B, id: u32) -> bool
     ensures { result ≡ not (id == 0 || nat_le (B.LookupHelper.book book.now).bound id) }
 {
     id != 0 && (id as usize) < book.bound()
+}
+
+// Whether an id is legal in its own book, and in no book. Its own book is asked first, since a taken id mostly stands there.
+fn is_new<R: Drop, S: Drop, Q: Drop, A: LookupHelper<R>, B: LookupHelper<S>, C: LookupHelper<Q>>(
+    own: &A,
+    second: &B,
+    third: &C,
+    id: u32,
+) -> bool
+    ensures { result ≡ is_new (A.LookupHelper.book own.now) (B.LookupHelper.book second.now) (C.LookupHelper.book third.now) id }
+{
+    is_legal(own, id)
+        && own.find(id).is_none()
+        && second.find(id).is_none()
+        && third.find(id).is_none()
 }
 
 // Whether a record more fits into a book.

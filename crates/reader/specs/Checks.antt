@@ -39,6 +39,11 @@ state_inside (Some start) c = counts_inside c && range_inside start c
 abbrev pub value_room : Cells → Shelf → Bool
 value_room c b = room_for 1 c.expressions max_expressions && has_space b.values
 
+-- The first two checks of a call that makes one value: 16 for the numbers of the state, 6.
+abbrev pub new_checks : Option ℕ → Cells → Shelf → ℕ → Result (Unit {0}) Error
+new_checks emitter c b id =
+    and_then (check (not (state_inside emitter c)) Mismatch) (λ _. check (not (new_value b id)) (InvalidResultId 0))
+
 -- The checks of a call that makes one value, in their order: 16 for the numbers of the state, 6, what the call itself looks
 -- for (5, 13, 7), 15. `room` is whether its own list, if it has one, has a free cell.
 abbrev pub value_checks : {X : Type 0} → Option ℕ → Cells → Shelf → ℕ → Result X Error → Bool → Result X Error

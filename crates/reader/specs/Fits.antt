@@ -13,6 +13,11 @@ use Rattle.reader.specs.Reads.{store_cells}
 use Rattle.memory.specs.Rooms.{RoomIn}
 use Rattle.reader.specs.declared.declare.TypePlan.{TypePlan}
 
+-- an id is new for a value, and the numbers of the state lie inside the lists
+pub record NewFits (c : Cells) (b : Shelf) (id : ℕ) : Type 0 where
+  pub new : not (taken b.values id) ≡ true
+  pub brought : c.brought ≤ c.expressions.count
+
 -- a value under a new id fits, and `room` is whether the call's own list has a free cell
 pub record ValueFits (c : Cells) (b : Shelf) (id : ℕ) (room : Bool) : Type 0 where
   pub own : room ≡ true

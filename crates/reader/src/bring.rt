@@ -61,8 +61,9 @@ impl Reading {
         ensures state { reading self.new lists.new (B.shelf books.new) ≡ (brings_value (reading self.old lists.old (B.shelf books.old)) id ty).state }
         ensures answer { result ≡ (brings_value (reading self.old lists.old (B.shelf books.old)) id ty).answer }
     {
-        let found = find_number(&self.context(lists, books), ty);
-        let ty = self.expect_value(lists, books, id, found, true)?;
+        self.expect_new(lists, books, id)?;
+        let ty = find_number(&self.context(lists, books), ty)?;
+        self.expect_room(lists, books, true)?;
         let expression = Expression::supplied(ty, self.counts.brought);
         self.counts.brought += 1;
         Ok(append_value(&mut self.counts, lists, books, id, expression, ty))
@@ -79,8 +80,9 @@ impl Reading {
         ensures state { reading self.new lists.new (B.shelf books.new) ≡ (brings_element (reading self.old lists.old (B.shelf books.old)) id base index).state }
         ensures answer { result ≡ (brings_element (reading self.old lists.old (B.shelf books.old)) id base index).answer }
     {
-        let found = find_element(&self.context(lists, books), base, index);
-        let element = self.expect_value(lists, books, id, found, true)?;
+        self.expect_new(lists, books, id)?;
+        let element = find_element(&self.context(lists, books), base, index)?;
+        self.expect_room(lists, books, true)?;
         let expression = Expression::access(element.base, element.index);
         Ok(append_value(&mut self.counts, lists, books, id, expression, element.ty))
     }

@@ -99,14 +99,15 @@ impl AtRest {
         ensures state { at_rest self.new lists.new (B.shelf books.new) ≡ (declares_variable (at_rest self.old lists.old (B.shelf books.old)) id ty).state }
         ensures answer { result ≡ (declares_variable (at_rest self.old lists.old (B.shelf books.old)) id ty).answer }
     {
-        let found = find_resource(&self.context(lists, books), ty);
+        self.expect_new(lists, books, id)?;
+        let ty = find_resource(&self.context(lists, books), ty)?;
         let room = has_room(
             self.counts.variables,
             1,
             lists.variables.len(),
             MAX_VARIABLES,
         );
-        let ty = self.expect_value(lists, books, id, found, room)?;
+        self.expect_room(lists, books, room)?;
         let variable = GlobalVariable {
             ty,
             flags: SamplingFlags::EMPTY,
@@ -126,14 +127,15 @@ impl AtRest {
         ensures state { at_rest self.new lists.new (B.shelf books.new) ≡ (declares_argument (at_rest self.old lists.old (B.shelf books.old)) id ty).state }
         ensures answer { result ≡ (declares_argument (at_rest self.old lists.old (B.shelf books.old)) id ty).answer }
     {
-        let found = find_resource(&self.context(lists, books), ty);
+        self.expect_new(lists, books, id)?;
+        let ty = find_resource(&self.context(lists, books), ty)?;
         let room = has_room(
             self.counts.arguments,
             1,
             lists.arguments.len(),
             MAX_ARGUMENTS,
         );
-        let ty = self.expect_value(lists, books, id, found, room)?;
+        self.expect_room(lists, books, room)?;
         let argument = FunctionArgument {
             ty,
             flags: SamplingFlags::EMPTY,
@@ -154,14 +156,15 @@ impl AtRest {
         ensures state { at_rest self.new lists.new (B.shelf books.new) ≡ (declares_constant (at_rest self.old lists.old (B.shelf books.old)) id ty literal).state }
         ensures answer { result ≡ (declares_constant (at_rest self.old lists.old (B.shelf books.old)) id ty literal).answer }
     {
-        let found = find_scalar(&self.context(lists, books), ty, literal);
+        self.expect_new(lists, books, id)?;
+        let ty = find_scalar(&self.context(lists, books), ty, literal)?;
         let room = has_room(
             self.counts.constants,
             1,
             lists.constants.len(),
             MAX_CONSTANTS,
         );
-        let ty = self.expect_value(lists, books, id, found, room)?;
+        self.expect_room(lists, books, room)?;
         let constant = Constant { ty, value: literal };
         let index = push(lists.constants, &mut self.counts.constants, constant);
         let expression = Expression::constant(ConstantHandle { index });

@@ -1,12 +1,12 @@
 // The reader's two states. Each is moved by its calls, so that a call in the wrong state does not compile.
-ghost use Rattle.std.specs.Prelude.{◌≡◌, ℕ, not, Some, None, Option, IfOk};
-ghost use Rattle.records.specs.declared.refusals.Error.TheVariants.{Mismatch};
+ghost use Rattle.std.specs.Prelude.{◌≡◌, ℕ, not, ◌&&◌, Some, None, Option, IfOk};
+ghost use Rattle.records.specs.declared.refusals.Error.TheVariants.{Mismatch, Full};
 ghost use Rattle.records.specs.Refusals.{check};
 ghost use Rattle.memory.specs.Cells.{cells_of};
 ghost use Rattle.images.specs.Used.{used_of, used_in};
 ghost use Rattle.memory.specs.declared.lists.Counts.{Counts as Numbers};
-ghost use Rattle.reader.specs.Checks.{state_inside, value_checks};
-ghost use Rattle.reader.specs.Fits.{ValueFits};
+ghost use Rattle.reader.specs.Checks.{state_inside, new_checks, value_room};
+ghost use Rattle.reader.specs.Fits.{ValueFits, NewFits};
 
 use crate::append::unplaced;
 use memory::{BlockContext, Counts, IdBooks, Lists, has_room, has_space};
@@ -62,29 +62,37 @@ pub(crate) trait ReaderState {
         self.counts().context(lists, books)
     }
 
-    // The checks of a call that makes a value. `found` is what the call itself looked for, and `room` is whether its own
-    // list, if it has one, has a free cell.
-    final fn expect_value<B: IdBooks, X: Copy>(
+    // What a call that makes a value checks first: its numbers, and that its id is new.
+    final fn expect_new<B: IdBooks>(
         &self,
         lists: &Lists<'_>,
         books: &B,
         id: u32,
-        found: Result<X, Error>,
-        room: bool,
-    ) -> Result<X, Error>
-        ensures checks { result ≡ value_checks (start self.now) (cells_of (numbers self.now) lists.now) (B.shelf books.now) id found room }
-        ensures fits { IfOk result (λ _. ValueFits (cells_of (numbers self.now) lists.now) (B.shelf books.now) id room) }
+    ) -> Result<(), Error>
+        ensures checks { result ≡ new_checks (start self.now) (cells_of (numbers self.now) lists.now) (B.shelf books.now) id }
+        ensures fits { IfOk result (λ _. NewFits (cells_of (numbers self.now) lists.now) (B.shelf books.now) id) }
     {
         self.expect_inside(lists)?;
-        books.expect_new_value(unplaced(id))?;
-        let found = found?;
+        books.expect_new_value(unplaced(id))
+    }
+
+    // What it checks last, when what the call itself looks for is found: that there is room. `room` is whether its own list,
+    // if it has one, has a free cell.
+    final fn expect_room<B: IdBooks>(
+        &self,
+        lists: &Lists<'_>,
+        books: &B,
+        room: bool,
+    ) -> Result<(), Error>
+        ensures checks { result ≡ check (not (room && value_room (cells_of (numbers self.now) lists.now) (B.shelf books.now))) Full }
+        ensures fits { (id : ℕ) → NewFits (cells_of (numbers self.now) lists.now) (B.shelf books.now) id → IfOk result (λ _. ValueFits (cells_of (numbers self.now) lists.now) (B.shelf books.now) id room) }
+    {
         let count = self.counts().expressions;
         let expressions = has_room(count, 1, lists.expressions.len(), MAX_EXPRESSIONS);
         expect(
             room && (expressions && has_space(books.values())),
             Error::Full,
-        )?;
-        Ok(found)
+        )
     }
 }
 

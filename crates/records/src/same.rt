@@ -11,6 +11,7 @@ pub fn same_class(class: ImageClass, other: ImageClass) -> bool
     class == other
 }
 
+#[tactic(auto, using(crate::proofs::Equal::types_decided))]
 pub fn same_type(ty: TypeInner, other: TypeInner) -> bool
     ensures computed { result ≡ same_type ty other }
     ensures decides { Decides result (ty ≡ other) }
